@@ -1,0 +1,4 @@
+pub mod Short
+pub mod ShortLaws
+pub mod Name
+pub mod Targets

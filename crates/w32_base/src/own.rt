@@ -1,0 +1,96 @@
+//! The memory of a process.
+
+ghost use Rattle.std.specs.Prelude.{◌≡◌, ◌<◌, ◌≤◌, length, IfOk, slice_get, slice_index, slice_set, replicate, IsTrue, ◌↔◌, []};
+
+use std::alloc::{AllocError, Global};
+use std::marker::Model;
+
+/// Bytes on the heap. A contract sees them as a list.
+#[derive(Debug, Drop)]
+pub struct Bytes {
+    bytes: Vec<u8>,
+}
+
+impl Model for Bytes {
+    ghost use Rattle.std.specs.Prelude.{List, ℕ};
+
+    ghost Value = { List ℕ };
+
+    ghost view = { λ b. b.bytes.items };
+}
+
+impl Bytes {
+    /// These bytes, without taking memory.
+    pub fn from_vec(bytes: Vec<u8>) -> Bytes
+        ensures { result ≡ bytes.items }
+    {
+        Bytes { bytes }
+    }
+
+    /// The bytes again, without taking memory.
+    pub fn into_vec(self) -> Vec<u8>
+        ensures { result.items ≡ self }
+    {
+        self.bytes
+    }
+
+    /// So many zeros.
+    pub fn zeros(alloc: Global, count: usize) -> Result<Bytes, AllocError>
+        ensures { IfOk result (λ b. b ≡ replicate count 0) }
+    {
+        Ok(Bytes {
+            bytes: vec![in alloc; 0; count]?,
+        })
+    }
+
+    /// How many bytes there are.
+    pub fn len(&self) -> usize
+        ensures { result ≡ length self.now }
+    {
+        self.bytes.len()
+    }
+
+    /// Whether there are none.
+    pub fn is_empty(&self) -> bool
+        ensures { IsTrue result ↔ (self.now ≡ []) }
+    {
+        self.bytes.is_empty()
+    }
+
+    /// The bytes, to read.
+    pub fn as_slice(&self) -> &[u8]
+        ensures { result.now ≡ self.now }
+    {
+        self.bytes.as_slice()
+    }
+
+    /// The byte at a place, or none past the end.
+    pub fn get(&self, index: usize) -> Option<u8>
+        ensures { result ≡ slice_get self.now index }
+    {
+        self.bytes.as_slice().get(index).copied()
+    }
+
+    /// Sets the byte at a place.
+    pub fn set(&mut self, index: usize, byte: u8)
+        requires { index < length self.old }
+        ensures { self.new ≡ slice_set self.old index byte }
+    {
+        self.bytes[index] = byte;
+    }
+}
+
+/// The five regions of a process's memory.
+#[derive(Debug, Drop)]
+pub struct Own {
+    /// The data region: registers, the place of the next instruction, the bytes of stack in use, the program.
+    pub dat: Bytes,
+    /// The heap.
+    pub heap: Bytes,
+    /// The stack, which grows upwards from 0.
+    pub stack: Bytes,
+    /// The cygheap.
+    pub cyg: Bytes,
+    /// The scratch region.
+    pub scratch: Bytes,
+}
