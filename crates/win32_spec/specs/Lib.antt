@@ -1,0 +1,4 @@
+pub mod Handles
+pub mod Objects
+pub mod Regions
+pub mod State
