@@ -140,6 +140,14 @@ impl HandleList {
         self.numbers.is_empty()
     }
 
+    /// The numbers of the handles.
+    pub fn numbers(&self) -> &[u8]
+        ensures value { result.now ≡ self.now }
+        ensures range { length self.now ≤ 40 }
+    {
+        self.numbers.as_slice()
+    }
+
     /// The handle at a place, or none past the end.
     pub fn get(&self, index: usize) -> Option<HandleNo>
         ensures { result ≡ slice_get self.now index }
