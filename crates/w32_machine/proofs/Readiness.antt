@@ -27,7 +27,7 @@ layer_waits words host hp ho lp lo (h ∷ hs) =
     rw (layer_sees_none words host hp ho lp lo (nat_eq 1 h)) (layer_waits words host hp ho lp lo hs)
 
 -- the host's thread sees the end of the layer process by handle 4, and nothing by handle 1
-host_sees : (words : List ℕ) (hp : Call) (ho : Own) (layer : SeatLife) (lp : Call) (lo : Own) (a b : Bool)
+pub host_sees : (words : List ℕ) (hp : Call) (ho : Own) (layer : SeatLife) (lp : Call) (lo : Own) (a b : Bool)
     → is_handle_signalled (state_of words life.Alive hp ho layer lp lo) 1 1 (cond a (Some 0) (cond b (Some 2) None)) ≡ (not_alive layer && (cond a false b))
 host_sees words hp ho life.Alive lp lo true b = refl
 host_sees words hp ho life.Alive lp lo false true = refl
@@ -37,7 +37,7 @@ host_sees words hp ho (life.Ended c) lp lo false true = refl
 host_sees words hp ho (life.Ended c) lp lo false false = refl
 
 -- a number that is 1 isn't 4
-not_both : (h : ℕ) → cond (nat_eq 1 h) false (nat_eq 4 h) ≡ nat_eq 4 h
+pub not_both : (h : ℕ) → cond (nat_eq 1 h) false (nat_eq 4 h) ≡ nat_eq 4 h
 not_both h = grind (arith, nat_tests)
 
 spread : (a b c : Bool) → (a && b || a && c) ≡ (a && (b || c))

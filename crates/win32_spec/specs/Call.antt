@@ -45,18 +45,18 @@ abbrev pub number_or_zero : Option ℕ → ℕ
 number_or_zero None = 0
 number_or_zero (Some names) = object_number names
 
--- the state with other words in the section that a handle of the caller names
-abbrev pub with_words : Win32State → ℕ → ℕ → List ℕ → Win32State
-with_words s w h words = record s { objects = change_object (number_or_zero (named_by s w h)) (λ _. Section words) s.objects }
+-- the state with other words in the section that a handle names
+abbrev pub with_words : Win32State → Option ℕ → List ℕ → Win32State
+with_words s named words = record s { objects = change_object (number_or_zero named) (λ _. Section words) s.objects }
 
 -- the word that was found, or why there is none
 abbrev pub word_reply : Option (List ℕ) → ℕ → Reply
 word_reply None i = reply.BadHandle
 word_reply (Some words) i = load_reply words i
 
-abbrev pub after_exchange : Win32State → ℕ → ℕ → Option (List ℕ) → ℕ → ℕ → ℕ → Win32State
-after_exchange s w h None i old new = s
-after_exchange s w h (Some words) i old new = with_words s w h (exchanged words i old new)
+abbrev pub after_exchange : Win32State → Option ℕ → Option (List ℕ) → ℕ → ℕ → ℕ → Win32State
+after_exchange s named None i old new = s
+after_exchange s named (Some words) i old new = with_words s named (exchanged words i old new)
 
 abbrev pub life_reply : Life → Reply
 life_reply Alive = reply.Active
@@ -111,7 +111,7 @@ WaitStep s w t list (Some n) r new =
 abbrev pub CallStep : Win32State → ℕ → ℕ → Call → Reply → Win32State → Type 0
 CallStep s w t (call.Load h i) r new = (r ≡ word_reply (words_of (object_by s w h)) i) × (new ≡ s)
 CallStep s w t (call.CompareExchange h i old value) r new =
-    (r ≡ word_reply (words_of (object_by s w h)) i) × (new ≡ after_exchange s w h (words_of (object_by s w h)) i old value)
+    (r ≡ word_reply (words_of (object_by s w h)) i) × (new ≡ after_exchange s (named_by s w h) (words_of (object_by s w h)) i old value)
 CallStep s w t (call.ExitCode h) r new = (r ≡ exit_code_reply s (process_named (object_by s w h))) × (new ≡ s)
 CallStep s w t (call.ExitSelf code) r new = (r ≡ reply.Done) × (new ≡ with_end s w code)
 CallStep s w t (call.WaitAny list) r new =
