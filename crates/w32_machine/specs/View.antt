@@ -22,9 +22,9 @@ layer_handles = record { number = 1; names = 0 } ∷ []
 abbrev pub one_thread : ℕ → Call → List Thread
 one_thread t posted = record { number = t; suspended = 0; posted = posted } ∷ []
 
--- the host, while it lives; nobody holds it
-abbrev pub host_processes : SeatLife → Call → Own → List Process
-host_processes life.Alive posted own = record {
+-- the host while it lives
+abbrev pub host_process : Call → Own → Process
+host_process posted own = record {
   number = 1;
   slot = 0;
   program = None;
@@ -33,7 +33,11 @@ host_processes life.Alive posted own = record {
   handles = host_handles;
   own = own;
   placed = [];
-} ∷ []
+}
+
+-- the host, while it lives; nobody holds it
+abbrev pub host_processes : SeatLife → Call → Own → List Process
+host_processes life.Alive posted own = host_process posted own ∷ []
 host_processes (life.Ended code) posted own = []
 
 abbrev pub ended_layer : ℕ → Process
@@ -48,18 +52,25 @@ ended_layer code = record {
   placed = [];
 }
 
--- the layer process, while it lives, or while the host lives and so holds it
-abbrev pub layer_processes : SeatLife → SeatLife → Call → Own → List Process
-layer_processes host life.Alive posted own = record {
+abbrev pub main_thread : Call → Thread
+main_thread posted = record { number = 0; suspended = 0; posted = posted }
+
+-- the layer process while it lives
+abbrev pub layer_process : Call → Own → Process
+layer_process posted own = record {
   number = 2;
   slot = 1;
   program = Some 0;
   life = Alive;
-  threads = one_thread 0 posted;
+  threads = main_thread posted ∷ [];
   handles = layer_handles;
   own = own;
   placed = [];
-} ∷ []
+}
+
+-- the layer process, while it lives, or while the host lives and so holds it
+abbrev pub layer_processes : SeatLife → SeatLife → Call → Own → List Process
+layer_processes host life.Alive posted own = layer_process posted own ∷ []
 layer_processes life.Alive (life.Ended code) posted own = ended_layer code ∷ []
 layer_processes (life.Ended d) (life.Ended code) posted own = []
 

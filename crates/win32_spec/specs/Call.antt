@@ -127,3 +127,12 @@ is_built (call.ExitCode h) = true
 is_built (call.ExitSelf code) = true
 is_built (call.WaitAny list) = true
 is_built _ = false
+
+abbrev pub words_or : Option (List ℕ) → Option (List ℕ) → Option (List ℕ)
+words_or (Some words) rest = Some words
+words_or None rest = rest
+
+-- the words of the section among the objects
+abbrev pub section_words : List NumberedObject → Option (List ℕ)
+section_words [] = None
+section_words (x ∷ xs) = words_or (words_of (Some x.object)) (section_words xs)

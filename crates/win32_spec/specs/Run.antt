@@ -25,6 +25,26 @@ pub record PostedStep (s : Win32State) (slot t : ℕ) (p : Process) (x : Thread)
   pub thread : IsThread s slot t p x
   pub step : CallStep s p.number t x.posted reply new
 
+-- some thread of this place carries out its posted call, with this reply
+abbrev pub CarriesOut : Win32State → ℕ → ℕ → Reply → Win32State → Type 0
+CarriesOut s slot t reply new = (p : Process) × (x : Thread) × PostedStep s slot t p x reply new
+
+-- whether there is such a thread
+abbrev pub is_there : Option Thread → Bool
+is_there None = false
+is_there (Some x) = true
+
+abbrev pub has_thread_of : Option Process → ℕ → Bool
+has_thread_of None t = false
+has_thread_of (Some p) t = is_there (thread_in p.threads t)
+
+abbrev pub has_thread : Win32State → ℕ → ℕ → Bool
+has_thread s slot t = has_thread_of (process_in s.processes slot) t
+
+-- the thread of this place has another posted call, and all else stays
+abbrev pub Posts : Win32State → ℕ → ℕ → Call → Win32State → Type 0
+Posts s slot t next new = (p : Process) → process_in s.processes slot ≡ Some p → new ≡ with_posted s p.number t next
+
 abbrev pub is_live : Option Process → Bool
 is_live None = false
 is_live (Some p) = is_alive p.life
@@ -55,6 +75,11 @@ pub record ReadyTurn (s : Win32State) (slot t : ℕ) (called : Option Call) (cam
 abbrev pub EndStep : Win32State → Option Process → Outcome → Win32State → Type 0
 EndStep s None came new = (came ≡ outcome.Idle) × (new ≡ s)
 EndStep s (Some p) came new = (came ≡ outcome.Ended p.number) × (new ≡ with_end s p.number 65536)
+
+-- the outcome of the end of a process, or of none
+abbrev pub end_outcome : Option ℕ → Outcome
+end_outcome None = outcome.Idle
+end_outcome (Some w) = outcome.Ended w
 
 -- what a directive does, with the call and the outcome that the journal keeps of it
 abbrev pub StepBy : Win32State → Directive → Option Call → Outcome → Win32State → Type 0
