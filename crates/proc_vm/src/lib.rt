@@ -1,0 +1,12 @@
+//! Process instructions: what is next in a program, blocks of local instructions on the process's memory, and the
+//! result of a call. The memory is changed in place; no call takes memory.
+#![tactic(auto)]
+
+mod next;
+mod readers;
+mod words;
+mod writers;
+
+pub use next::{CallInstr, Next, next_instr};
+pub use readers::{next_place, operand_value, program_number, register, stack_in_use};
+pub use writers::set_result;
