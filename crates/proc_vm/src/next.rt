@@ -68,6 +68,7 @@ pub enum Next {
 }
 
 /// What is next in the process's program: a local instruction, a call, or an image fault.
+#[tactic(auto, unfolding(vm_spec::specs::Step::upcoming))]
 pub fn next_instr(own: &Own, p: &Program) -> Next
     requires { length own.now.dat ≡ 64 }
     ensures { shown result ≡ upcoming p.now.code (image_of own.now) }

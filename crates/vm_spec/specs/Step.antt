@@ -29,7 +29,7 @@ abbrev pub upcoming_at : Option Instr → Upcoming
 upcoming_at None = ImageFault
 upcoming_at (Some i) = if is_local i then LocalInstruction else CallInstruction i
 
-abbrev pub upcoming : List Instr → Image → Upcoming
+unfoldable pub upcoming : List Instr → Image → Upcoming
 upcoming code image = if faults code image then ImageFault else upcoming_at (slice_get code (place_of image))
 
 -- the byte of the heap that a value names, which is 0 or more
@@ -78,11 +78,11 @@ after_local_at None image = image
 after_local_at (Some i) image = after_local i image
 
 -- one step of a program, where what is next is a local instruction
-abbrev pub local_step : List Instr → Image → Image
+unfoldable pub local_step : List Instr → Image → Image
 local_step code image = after_local_at (slice_get code (place_of image)) image
 
 -- n local instructions, one after another
-abbrev pub block_of : ℕ → List Instr → Image → Image
+unfoldable pub block_of : ℕ → List Instr → Image → Image
 block_of zero code image = image
 block_of (suc n) code image = local_step code (block_of n code image)
 
