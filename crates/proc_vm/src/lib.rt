@@ -6,6 +6,8 @@ mod block;
 mod next;
 mod readers;
 mod step;
+#[cfg(test)]
+mod tests;
 mod words;
 mod writers;
 
