@@ -1,6 +1,7 @@
 //! The memory of a process.
 
-ghost use Rattle.std.specs.Prelude.{◌≡◌, ◌<◌, ◌≤◌, length, IfOk, slice_get, slice_index, slice_set, replicate, IsTrue, ◌↔◌, []};
+ghost use Rattle.std.specs.Prelude.{◌≡◌, ◌<◌, ◌≤◌, length, IfOk, slice_get, slice_index, slice_set, replicate, IsTrue, ◌↔◌, [], ◌+◌, ◌++◌, take, drop};
+ghost use Rattle.std.specs.Int.{w32, from_le_bytes, to_le_bytes};
 
 use std::alloc::{AllocError, Global};
 use std::marker::Model;
@@ -77,6 +78,24 @@ impl Bytes {
         ensures { self.new ≡ slice_set self.old index byte }
     {
         self.bytes[index] = byte;
+    }
+
+    /// The number in four bytes from a place on, the lowest byte first.
+    pub fn word(&self, index: usize) -> u32
+        requires { index + 4 ≤ length self.now }
+        ensures { result ≡ from_le_bytes w32 (take 4 (drop index self.now)) }
+    {
+        let bytes = self.bytes.as_slice();
+        u32::from_le_bytes([bytes[index], bytes[index + 1], bytes[index + 2], bytes[index + 3]])
+    }
+
+    /// Writes a number into four bytes from a place on, the lowest byte first.
+    pub fn set_word(&mut self, index: usize, word: u32)
+        requires { index + 4 ≤ length self.old }
+        ensures { self.new ≡ take index self.old ++ to_le_bytes w32 word ++ drop (index + 4) self.old }
+    {
+        let place = &mut self.bytes.as_mut_slice()[index..index + 4];
+        place.copy_from_slice(&word.to_le_bytes());
     }
 }
 
