@@ -13,14 +13,12 @@ use Rattle.win32_spec.specs.State.{Process, Thread, Win32State}
 use Rattle.win32_spec.specs.Lookup.{process_in, with_posted, with_own, with_end}
 use Rattle.w32_base.specs.declared.call.Reply.{Reply}
 use Rattle.win32_spec.specs.Ready.{is_ready, IsQuiet, IsNextReady, distance}
-use Rattle.w32_base.specs.declared.setup.Setup.{Setup}
-use Rattle.w32_base.specs.declared.part.After.{After}
-use Rattle.w32_machine.specs.Contract.{OnlyTwo, GoesOnBy}
+use Rattle.w32_machine.specs.Contract.{OnlyTwo}
 use Rattle.win32_spec.specs.Call.{is_built}
-use Rattle.win32_spec.specs.Run.{CarriesOut, IsThread, Posts, has_thread, is_there}
+use Rattle.win32_spec.specs.Run.{CarriesOut, PostedStep, IsThread, Posts, has_thread}
 use Rattle.w32_machine.specs.declared.seat.SeatLife.{SeatLife}
 use Rattle.w32_machine.specs.declared.seat.SeatLife.TheVariants as life
-use Rattle.w32_machine.specs.View.{state_of, host_process, layer_process, main_thread}
+use Rattle.w32_machine.specs.View.{state_of, host_process, layer_process, starter_thread, main_thread}
 use Rattle.w32_machine.specs.Turns.{host_may_go, host_reply, layer_may_go, layer_reply, words_after, life_after, seats_ready, seat_alive, host_is_ready, layer_is_ready}
 use Rattle.w32_machine.proofs.Readiness.{is_ready-state_of}
 use Rattle.w32_machine.proofs.CallSteps.{host_step, layer_step}
@@ -40,13 +38,37 @@ pub length-words_after : (words : List ℕ) (c : Call) → length (words_after w
 length-words_after words (call.CompareExchange h i old new) = by_handle words i old new (nat_eq 1 h)
 length-words_after words _ = refl
 
+host_thread : (words : List ℕ) (hp : Call) (ho : Own) (layer : SeatLife) (lp : Call) (lo : Own)
+    → IsThread (state_of words life.Alive hp ho layer lp lo) 0 1 (host_process hp ho) (starter_thread hp)
+host_thread words hp ho layer lp lo = record { process = refl; thread = refl }
+
+host_may : (words : List ℕ) (hp : Call) (ho : Own) (layer : SeatLife) (lp : Call) (lo : Own)
+    → is_ready (state_of words life.Alive hp ho layer lp lo) 0 1 ≡ true → host_may_go layer hp ≡ true
+host_may words hp ho layer lp lo ready = sym (or-false (host_may_go layer hp)) ∙ sym (is_ready-state_of words life.Alive hp ho layer lp lo 0 1) ∙ ready
+
+-- the host that has a ready thread is alive
+pub host_lives : (words : List ℕ) (host : SeatLife) (hp : Call) (ho : Own) (layer : SeatLife) (lp : Call) (lo : Own)
+    → is_ready (state_of words host hp ho layer lp lo) 0 1 ≡ true → host ≡ life.Alive
+host_lives words life.Alive hp ho layer lp lo ready = refl
+host_lives words (life.Ended d) hp ho layer lp lo ready =
+    let never : false ≡ true = sym (is_ready-state_of words (life.Ended d) hp ho layer lp lo 0 1) ∙ ready in cc
+
+-- its posted call is carried out
+pub host_posted : (words : List ℕ) (hp : Call) (ho : Own) (layer : SeatLife) (lp : Call) (lo : Own)
+    → is_built hp ≡ true → is_ready (state_of words life.Alive hp ho layer lp lo) 0 1 ≡ true
+    → PostedStep (state_of words life.Alive hp ho layer lp lo) 0 1 (host_process hp ho) (starter_thread hp) (host_reply words layer hp)
+        (state_of (words_after words hp) (life_after hp) hp ho layer lp lo)
+host_posted words hp ho layer lp lo built ready = record {
+  thread = host_thread words hp ho layer lp lo;
+  step = host_step words hp ho layer lp lo (host_may words hp ho layer lp lo ready) built;
+}
+
 -- the host's thread that is ready carries its call out
 pub host_carries : (words : List ℕ) (host : SeatLife) (hp : Call) (ho : Own) (layer : SeatLife) (lp : Call) (lo : Own)
     → is_built hp ≡ true → is_ready (state_of words host hp ho layer lp lo) 0 1 ≡ true
     → CarriesOut (state_of words host hp ho layer lp lo) 0 1 (host_reply words layer hp) (state_of (words_after words hp) (life_after hp) hp ho layer lp lo)
 host_carries words life.Alive hp ho layer lp lo built ready =
-    let goes : host_may_go layer hp ≡ true = sym (or-false (host_may_go layer hp)) ∙ sym (is_ready-state_of words life.Alive hp ho layer lp lo 0 1) ∙ ready in
-    (_, _, record { thread = record { process = refl; thread = refl }; step = host_step words hp ho layer lp lo goes built })
+    (host_process hp ho, starter_thread hp, host_posted words hp ho layer lp lo built ready)
 host_carries words (life.Ended d) hp ho layer lp lo built ready =
     let never : false ≡ true = sym (is_ready-state_of words (life.Ended d) hp ho layer lp lo 0 1) ∙ ready in cc
 
@@ -55,13 +77,27 @@ layer_thread : (words : List ℕ) (host : SeatLife) (hp : Call) (ho : Own) (lp :
 layer_thread words life.Alive hp ho lp lo = record { process = refl; thread = refl }
 layer_thread words (life.Ended d) hp ho lp lo = record { process = refl; thread = refl }
 
+pub layer_lives : (words : List ℕ) (host : SeatLife) (hp : Call) (ho : Own) (layer : SeatLife) (lp : Call) (lo : Own)
+    → is_ready (state_of words host hp ho layer lp lo) 1 0 ≡ true → layer ≡ life.Alive
+layer_lives words host hp ho life.Alive lp lo ready = refl
+layer_lives words host hp ho (life.Ended c) lp lo ready =
+    let never : false ≡ true = sym (is_ready-state_of words host hp ho (life.Ended c) lp lo 1 0) ∙ ready in cc
+
+pub layer_posted : (words : List ℕ) (host : SeatLife) (hp : Call) (ho : Own) (lp : Call) (lo : Own)
+    → is_built lp ≡ true → is_ready (state_of words host hp ho life.Alive lp lo) 1 0 ≡ true
+    → PostedStep (state_of words host hp ho life.Alive lp lo) 1 0 (layer_process lp lo) (main_thread lp) (layer_reply words lp)
+        (state_of (words_after words lp) host hp ho (life_after lp) lp lo)
+layer_posted words host hp ho lp lo built ready = record {
+  thread = layer_thread words host hp ho lp lo;
+  step = layer_step words host hp ho lp lo (sym (is_ready-state_of words host hp ho life.Alive lp lo 1 0) ∙ ready) built;
+}
+
 -- the layer's thread that is ready carries its call out
 pub layer_carries : (words : List ℕ) (host : SeatLife) (hp : Call) (ho : Own) (layer : SeatLife) (lp : Call) (lo : Own)
     → is_built lp ≡ true → is_ready (state_of words host hp ho layer lp lo) 1 0 ≡ true
     → CarriesOut (state_of words host hp ho layer lp lo) 1 0 (layer_reply words lp) (state_of (words_after words lp) host hp ho (life_after lp) lp lo)
 layer_carries words host hp ho life.Alive lp lo built ready =
-    let goes : layer_may_go lp ≡ true = sym (is_ready-state_of words host hp ho life.Alive lp lo 1 0) ∙ ready in
-    (layer_process lp lo, main_thread lp, record { thread = layer_thread words host hp ho lp lo; step = layer_step words host hp ho lp lo goes built })
+    (layer_process lp lo, main_thread lp, layer_posted words host hp ho lp lo built ready)
 layer_carries words host hp ho (life.Ended c) lp lo built ready =
     let never : false ≡ true = sym (is_ready-state_of words host hp ho (life.Ended c) lp lo 1 0) ∙ ready in cc
 
@@ -162,115 +198,6 @@ in_layer s slot t two r e = at (two slot t r)
     at : ((slot ≡ 0) × (t ≡ 1)) ⊎ ((slot ≡ 1) × (t ≡ 0)) → (slot ≡ 1) × (t ≡ 0)
     at (inl (f, g)) = absurd (e f)
     at (inr (f, g)) = (f, g)
-
-there_by : (b : Bool) (x : Thread) → is_there (cond b (Some x) None) ≡ true → b ≡ true
-there_by true x e = refl
-there_by false x e = cc
-
-host_acts : (words : List ℕ) (hp posted : Call) (ho own : Own) (layer : SeatLife) (lp : Call) (lo : Own)
-    → state_of words life.Alive posted own layer lp lo ≡ with_posted (with_own (state_of words life.Alive hp ho layer lp lo) 1 own) 1 1 posted
-host_acts words hp posted ho own life.Alive lp lo = refl
-host_acts words hp posted ho own (life.Ended c) lp lo = refl
-
-host_gone : (words : List ℕ) (d : ℕ) (hp : Call) (ho : Own) (layer : SeatLife) (lp : Call) (lo : Own) (t : ℕ)
-    → has_thread (state_of words (life.Ended d) hp ho layer lp lo) 0 t ≡ true → ⊥
-host_gone words d hp ho life.Alive lp lo t e = cc
-host_gone words d hp ho (life.Ended c) lp lo t e = cc
-
--- what a part's turn leaves in the host
-pub host_goes_on : {P : Type 0} (goes : P → Own → Setup → Reply → P → Own → After → Type 0) (posted_of : P → Call)
-    (s : Win32State) (words : List ℕ) (host : SeatLife) (hp : Call) (ho : Own) (layer : SeatLife) (lp : Call) (lo : Own) (slot t : ℕ)
-    (part next : P) (setup : Setup) (reply : Reply) (answer : After) (own : Own) (posted : Call)
-    → state_of words host hp ho layer lp lo ≡ s → slot ≡ 0 → has_thread s slot t ≡ true
-    → goes part ho setup reply next own answer → posted ≡ posted_of next
-    → GoesOnBy goes posted_of s slot t part setup reply next answer (state_of words host posted own layer lp lo)
-host_goes_on {P} goes posted_of s words host hp ho layer lp lo slot t part next setup reply answer own posted e f has went p =
-    let Q : Win32State → Type 0 = λ x. has_thread x 0 t ≡ true
-        → GoesOnBy goes posted_of x 0 t part setup reply next answer (state_of words host posted own layer lp lo) in
-    let at_zero : has_thread s 0 t ≡ true = rw f at has in
-    rw f (subst Q e (at host) at_zero)
-  where
-    alive : (q : Process) → host_process hp ho ≡ q → t ≡ 1
-        → (x : Own) × goes part q.own setup reply next x answer
-            × (state_of words life.Alive posted own layer lp lo ≡ with_posted (with_own (state_of words life.Alive hp ho layer lp lo) q.number x) q.number t (posted_of next))
-    alive q is one =
-        let R : Process → Type 0 = λ q. (x : Own) × goes part q.own setup reply next x answer
-            × (state_of words life.Alive posted own layer lp lo ≡ with_posted (with_own (state_of words life.Alive hp ho layer lp lo) q.number x) q.number t (posted_of next)) in
-        let old : Win32State = with_own (state_of words life.Alive hp ho layer lp lo) 1 own in
-        let acts : state_of words life.Alive posted own layer lp lo ≡ with_posted old 1 t (posted_of next) =
-            host_acts words hp posted ho own layer lp lo ∙ ap (λ x. with_posted old 1 x posted) (sym one) ∙ ap (λ y. with_posted old 1 t y) p in
-        subst R is (own, went, acts)
-    at : (life : SeatLife) → has_thread (state_of words life hp ho layer lp lo) 0 t ≡ true
-        → GoesOnBy goes posted_of (state_of words life hp ho layer lp lo) 0 t part setup reply next answer (state_of words life posted own layer lp lo)
-    at life.Alive there q is = alive q (cc) (sym (eqb-true 1 t (there_by (nat_eq 1 t) _ there)))
-    at (life.Ended d) there q is = absurd (host_gone words d hp ho layer lp lo t there)
-
-layer_acts : (words : List ℕ) (host : SeatLife) (hp : Call) (ho : Own) (lp posted : Call) (lo own : Own)
-    → state_of words host hp ho life.Alive posted own ≡ with_posted (with_own (state_of words host hp ho life.Alive lp lo) 2 own) 2 0 posted
-layer_acts words life.Alive hp ho lp posted lo own = refl
-layer_acts words (life.Ended d) hp ho lp posted lo own = refl
-
--- the process of slot 1, and that there is none in a later one
-layer_is : (words : List ℕ) (host : SeatLife) (hp : Call) (ho : Own) (lp : Call) (lo : Own) (q : Process)
-    → process_in (state_of words host hp ho life.Alive lp lo).processes 1 ≡ Some q → layer_process lp lo ≡ q
-layer_is words life.Alive hp ho lp lo q e = cc
-layer_is words (life.Ended d) hp ho lp lo q e = cc
-
-layer_there : (words : List ℕ) (host : SeatLife) (hp : Call) (ho : Own) (lp : Call) (lo : Own) (t : ℕ)
-    → has_thread (state_of words host hp ho life.Alive lp lo) 1 t ≡ true → t ≡ 0
-layer_there words life.Alive hp ho lp lo t e = sym (eqb-true 0 t (there_by (nat_eq 0 t) _ e))
-layer_there words (life.Ended d) hp ho lp lo t e = sym (eqb-true 0 t (there_by (nat_eq 0 t) _ e))
-
-layer_gone : (words : List ℕ) (host : SeatLife) (hp : Call) (ho : Own) (c : ℕ) (lp : Call) (lo : Own) (t : ℕ)
-    → has_thread (state_of words host hp ho (life.Ended c) lp lo) 1 t ≡ true → ⊥
-layer_gone words life.Alive hp ho c lp lo t e = cc
-layer_gone words (life.Ended d) hp ho c lp lo t e = cc
-
-nowhere : (words : List ℕ) (host : SeatLife) (hp : Call) (ho : Own) (layer : SeatLife) (lp : Call) (lo : Own) (slot t : ℕ)
-    → nat_eq 0 slot ≡ false → nat_eq 1 slot ≡ false → has_thread (state_of words host hp ho layer lp lo) slot t ≡ false
-nowhere words life.Alive hp ho life.Alive lp lo slot t e f = rw (e, f) refl
-nowhere words life.Alive hp ho (life.Ended c) lp lo slot t e f = rw e refl
-nowhere words (life.Ended d) hp ho life.Alive lp lo slot t e f = rw f refl
-nowhere words (life.Ended d) hp ho (life.Ended c) lp lo slot t e f = refl
-
-slot_is_one : (words : List ℕ) (host : SeatLife) (hp : Call) (ho : Own) (layer : SeatLife) (lp : Call) (lo : Own) (slot t : ℕ)
-    → (slot ≡ 0 → ⊥) → has_thread (state_of words host hp ho layer lp lo) slot t ≡ true → slot ≡ 1
-slot_is_one words host hp ho layer lp lo slot t other has = by (nat_eq 1 slot) refl
-  where
-    by : (b : Bool) → nat_eq 1 slot ≡ b → slot ≡ 1
-    by true e = sym (eqb-true 1 slot e)
-    by false e =
-        let never : false ≡ true = sym (nowhere words host hp ho layer lp lo slot t (ne_eqb 0 slot (λ z. other (sym z))) e) ∙ has in cc
-
--- what a part's turn leaves in the layer process
-pub layer_goes_on : {P : Type 0} (goes : P → Own → Setup → Reply → P → Own → After → Type 0) (posted_of : P → Call)
-    (s : Win32State) (words : List ℕ) (host : SeatLife) (hp : Call) (ho : Own) (layer : SeatLife) (lp : Call) (lo : Own) (slot t : ℕ)
-    (part next : P) (setup : Setup) (reply : Reply) (answer : After) (own : Own) (posted : Call)
-    → state_of words host hp ho layer lp lo ≡ s → (slot ≡ 0 → ⊥) → has_thread s slot t ≡ true
-    → goes part lo setup reply next own answer → posted ≡ posted_of next
-    → GoesOnBy goes posted_of s slot t part setup reply next answer (state_of words host hp ho layer posted own)
-layer_goes_on {P} goes posted_of s words host hp ho layer lp lo slot t part next setup reply answer own posted e f has went p =
-    let Q : Win32State → Type 0 = λ x. has_thread x slot t ≡ true
-        → GoesOnBy goes posted_of x slot t part setup reply next answer (state_of words host hp ho layer posted own) in
-    subst Q e (λ there. at_slot there (slot_is_one words host hp ho layer lp lo slot t f there)) has
-  where
-    alive : (q : Process) → layer_process lp lo ≡ q → t ≡ 0
-        → (x : Own) × goes part q.own setup reply next x answer
-            × (state_of words host hp ho life.Alive posted own ≡ with_posted (with_own (state_of words host hp ho life.Alive lp lo) q.number x) q.number t (posted_of next))
-    alive q is first =
-        let R : Process → Type 0 = λ q. (x : Own) × goes part q.own setup reply next x answer
-            × (state_of words host hp ho life.Alive posted own ≡ with_posted (with_own (state_of words host hp ho life.Alive lp lo) q.number x) q.number t (posted_of next)) in
-        let old : Win32State = with_own (state_of words host hp ho life.Alive lp lo) 2 own in
-        let acts : state_of words host hp ho life.Alive posted own ≡ with_posted old 2 t (posted_of next) =
-            layer_acts words host hp ho lp posted lo own ∙ ap (λ x. with_posted old 2 x posted) (sym first) ∙ ap (λ y. with_posted old 2 t y) p in
-        subst R is (own, went, acts)
-    at : (life : SeatLife) → has_thread (state_of words host hp ho life lp lo) 1 t ≡ true
-        → GoesOnBy goes posted_of (state_of words host hp ho life lp lo) 1 t part setup reply next answer (state_of words host hp ho life posted own)
-    at life.Alive there q is = alive q (layer_is words host hp ho lp lo q is) (layer_there words host hp ho lp lo t there)
-    at (life.Ended d) there q is = absurd (layer_gone words host hp ho d lp lo t there)
-    at_slot : has_thread (state_of words host hp ho layer lp lo) slot t ≡ true → slot ≡ 1
-        → GoesOnBy goes posted_of (state_of words host hp ho layer lp lo) slot t part setup reply next answer (state_of words host hp ho layer posted own)
-    at_slot there one = let at_one : has_thread (state_of words host hp ho layer lp lo) 1 t ≡ true = rw one at there in rw one (at layer at_one)
 
 -- without the host's thread, all is quiet where the layer's thread isn't ready
 pub quiet_rest : (s : Win32State) → OnlyTwo s → false ≡ is_ready s 0 1 → (b : Bool) → b ≡ is_ready s 1 0

@@ -1,3 +1,4 @@
 pub mod Readiness
 pub mod CallSteps
 pub mod Changes
+pub mod Drives

@@ -19,8 +19,8 @@ host_handles = record { number = 1; names = 0 } ∷ record { number = 4; names =
 abbrev pub layer_handles : List Handle
 layer_handles = record { number = 1; names = 0 } ∷ []
 
-abbrev pub one_thread : ℕ → Call → List Thread
-one_thread t posted = record { number = t; suspended = 0; posted = posted } ∷ []
+abbrev pub starter_thread : Call → Thread
+starter_thread posted = record { number = 1; suspended = 0; posted = posted }
 
 -- the host while it lives
 abbrev pub host_process : Call → Own → Process
@@ -29,7 +29,7 @@ host_process posted own = record {
   slot = 0;
   program = None;
   life = Alive;
-  threads = one_thread 1 posted;
+  threads = starter_thread posted ∷ [];
   handles = host_handles;
   own = own;
   placed = [];

@@ -8,13 +8,13 @@ ghost use Rattle.win32_spec.specs.Call.{is_built, section_words};
 ghost use Rattle.win32_spec.specs.Ready as ready;
 ghost use Rattle.win32_spec.specs.Ready.{IsQuiet, IsNextReady};
 ghost use Rattle.win32_spec.specs.Run.{CarriesOut, Posts, EndStep, end_outcome, has_thread};
-ghost use Rattle.w32_machine.specs.Contract.{MatchTurned, GoesOnBy, OnlyTwo, own_in, number_in};
+ghost use Rattle.w32_machine.specs.Contract.{MatchTurned, MatchDriven, DrivenStep, OnlyTwo, own_in, number_in};
 
 use crate::seat::{self, Seat, SeatLife};
 use crate::words::{self, BadIndex};
 use std::alloc::{AllocError, Global};
 use std::marker::Model;
-use w32_base::{After, Bytes, Call, HandleNo, Own, Part, Program, Reply, Setup, Slot, ThreadNo, Whole, WinNo};
+use w32_base::{Bytes, Call, Event, HandleNo, Own, Part, Program, Reply, Setup, Slot, ThreadNo, Whole, WinNo};
 
 /// What a turn gives.
 #[derive(Clone, Copy, Debug, PartialEq, Eq)]
@@ -23,6 +23,19 @@ pub enum Turned {
     Idle,
     /// The reply to the posted call, which was carried out.
     Done(Reply),
+}
+
+/// What a turn with a part gives.
+#[derive(Clone, Copy, Debug, PartialEq, Eq)]
+pub enum DrivenTurn {
+    /// The thread isn't ready.
+    Idle,
+    /// The call that was carried out, its reply, and the event that stands in the turn, if any.
+    Done {
+        call: Call,
+        reply: Reply,
+        event: Option<Event>,
+    },
 }
 
 /// The modelled Win32. A contract sees its state.
@@ -97,28 +110,23 @@ impl Machine {
         }
     }
 
-    /// Lets the part of a thread go on with a reply, over the bytes of the thread's own process, and sets the
-    /// thread's next call to the one that the part posts.
-    pub fn go_on<P: Whole>(
-        &mut self,
-        slot: Slot,
-        thread: ThreadNo,
-        part: &mut P,
-        setup: &Setup,
-        reply: &Reply,
-    ) -> After
-        requires exists { has_thread self.old slot thread ≡ true }
-        requires built { (p : P) → is_built (P.posted_of p) ≡ true }
-        ensures { GoesOnBy P.goes P.posted_of self.old slot thread part.old setup.now reply.now part.new result self.new }
+    /// One turn of a thread with its part: the posted call is carried out, and where the process lives on, the
+    /// part goes on with the reply over the bytes of its own process, and its next call is posted. The part is
+    /// given nothing else.
+    pub fn drive<P: Whole>(&mut self, slot: Slot, thread: ThreadNo, part: &mut P, setup: &Setup) -> DrivenTurn
+        requires { (p : P) → is_built (P.posted_of p) ≡ true }
+        ensures idle { MatchDriven result ((ready.is_ready self.old slot thread ≡ false) × (self.new ≡ self.old) × (part.new ≡ part.old))
+            (λ call reply event. ready.is_ready self.old slot thread ≡ true) }
+        ensures done { MatchDriven result Unit (λ call reply event.
+            DrivenStep P.goes P.posted_of self.old slot thread part.old setup.now call reply event part.new self.new) }
     {
+        if !self.is_ready(slot, thread) {
+            return DrivenTurn::Idle;
+        }
         if slot.get() == 0 {
-            let answer = part.after(&mut self.host.own, setup, reply);
-            self.host.posted = part.posted();
-            answer
+            self.drive_host(part, setup)
         } else {
-            let answer = part.after(&mut self.layer.own, setup, reply);
-            self.layer.posted = part.posted();
-            answer
+            self.drive_layer(part, setup)
         }
     }
 
@@ -212,6 +220,42 @@ impl Machine {
         ensures two { OnlyTwo self.now }
     {
         seat::layer_is_ready(&self.layer)
+    }
+
+    fn drive_host<P: Whole>(&mut self, part: &mut P, setup: &Setup) -> DrivenTurn
+        requires ready { ready.is_ready self.old 0 1 ≡ true }
+        requires built { (p : P) → is_built (P.posted_of p) ≡ true }
+        ensures { MatchDriven result ⊥ (λ call reply event.
+            DrivenStep P.goes P.posted_of self.old 0 1 part.old setup.now call reply event part.new self.new) }
+    {
+        let call = self.host.posted;
+        let reply = seat::host_reply(&self.words, self.layer.life, &call);
+        seat::change_words(&mut self.words, &call);
+        self.host.life = seat::life_after(&call);
+        if !seat::is_alive(self.host.life) {
+            return DrivenTurn::Done { call, reply, event: None };
+        }
+        let answer = part.after(&mut self.host.own, setup, &reply);
+        self.host.posted = part.posted();
+        DrivenTurn::Done { call, reply, event: answer.event }
+    }
+
+    fn drive_layer<P: Whole>(&mut self, part: &mut P, setup: &Setup) -> DrivenTurn
+        requires ready { ready.is_ready self.old 1 0 ≡ true }
+        requires built { (p : P) → is_built (P.posted_of p) ≡ true }
+        ensures { MatchDriven result ⊥ (λ call reply event.
+            DrivenStep P.goes P.posted_of self.old 1 0 part.old setup.now call reply event part.new self.new) }
+    {
+        let call = self.layer.posted;
+        let reply = seat::layer_reply(&self.words, &call);
+        seat::change_words(&mut self.words, &call);
+        self.layer.life = seat::life_after(&call);
+        if !seat::is_alive(self.layer.life) {
+            return DrivenTurn::Done { call, reply, event: None };
+        }
+        let answer = part.after(&mut self.layer.own, setup, &reply);
+        self.layer.posted = part.posted();
+        DrivenTurn::Done { call, reply, event: answer.event }
     }
 
     fn host_turn(&mut self) -> Reply
