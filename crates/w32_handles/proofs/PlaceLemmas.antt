@@ -114,6 +114,7 @@ listed_handles-from n (p ∷ ps) (q ∷ qs) ns e same =
   where
     first : q ≡ (if is_listed ns (n + 0) then p else None) → q ≡ (if is_listed ns n then p else None)
     first h = rw add-zero at h
+
     by_listed : (b : Bool) (p q : Option ℕ) → is_listed ns n ≡ b → q ≡ (if is_listed ns n then p else None) → handles_from (n + 1) qs ≡ listed_handles (handles_from (n + 1) ps) ns → handles_from n (q ∷ qs) ≡ listed_handles (handles_from n (p ∷ ps)) ns
     by_listed true None q is at rest = rw (at, is) rest
     by_listed true (Some o) q is at rest = rw (at, is) (ap (λ hs. record { number = n; names = o } ∷ hs) rest)

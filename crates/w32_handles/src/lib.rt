@@ -2,5 +2,7 @@
 #![tactic(auto)]
 
 pub mod handles;
+pub mod objects;
 
 pub use handles::{BadHandle, Handles, TableFull};
+pub use objects::{Memory, Objects};
