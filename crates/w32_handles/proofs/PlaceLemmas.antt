@@ -1,5 +1,5 @@
 -- What a change of a place is to the list of the handles.
-use Rattle.std.proofs.Common.{not, All, take, slice_get, ◌⊎◌, inl, inr, cond, count_by, ◌≡◌, ◌≢◌, ℕ, zero, suc, ◌+◌, ◌-◌, ◌≤◌, ◌<◌, Bool, true, false, if◌then◌else◌, nat_eq, nat_lt, List, [], ◌∷◌, ◌++◌, length, get_or, set, replicate, Option, Some, None, IsSome, is_some, refl, sym, ap, subst, ◌∙◌, add-zero, add-one, arith, true≢false}
+use Rattle.std.proofs.Common.{not, All, take, slice_get, ◌⊎◌, inl, inr, cond, count_by, ◌≡◌, ◌≢◌, ℕ, zero, suc, ◌+◌, ◌-◌, ◌≤◌, ◌<◌, Bool, true, false, if◌then◌else◌, nat_eq, nat_lt, List, [], ◌∷◌, ◌++◌, length, get_or, set, replicate, Option, Some, None, IsSome, is_some, refl, sym, ap, subst, ◌∙◌, add-zero, arith, true≢false}
 use Rattle.std.proofs.lemmas.Bool.Decides.{nat_tests}
 use Rattle.std.specs.Option.{option_eq}
 use Rattle.std.proofs.lemmas.Bool.{cases_eq, cases_lt}

@@ -47,18 +47,18 @@ impl Handles {
         }
     }
 
-    /// A further handle that names `object`, under the lowest number that is free. It fails, and changes nothing,
+    /// A further handle that names the object `o`, under the lowest number that is free. It fails, and changes nothing,
     /// exactly where all 64 are in use.
-    pub fn open(&mut self, object: ObjectNo) -> Result<HandleNo, TableFull>
+    pub fn open(&mut self, o: ObjectNo) -> Result<HandleNo, TableFull>
         ensures full { IsErr result ↔ (length self.old ≡ 64) }
         ensures unchanged { OnErr result (self.new ≡ self.old) }
         ensures lowest { IfOk result (λ number. IsLowestFree self.old number) }
-        ensures opened { IfOk result (λ number. self.new ≡ with_handle self.old number object) }
+        ensures opened { IfOk result (λ number. self.new ≡ with_handle self.old number o) }
         ensures rising { AreRisingFrom 1 self.new }
     {
         match lowest_free(&self.places) {
             Some(place) => {
-                self.places[place] = Some(object);
+                self.places[place] = Some(o);
                 Ok(HandleNo::new(place as u8 + 1))
             }
             None => Err(TableFull),
@@ -67,14 +67,14 @@ impl Handles {
 
     /// Closes a handle, and answers what it named. It fails, and changes nothing, exactly where no handle has this
     /// number.
-    pub fn close(&mut self, handle: HandleNo) -> Result<ObjectNo, BadHandle>
-        ensures absent { IsErr result ↔ (handle_of self.old handle ≡ None) }
+    pub fn close(&mut self, h: HandleNo) -> Result<ObjectNo, BadHandle>
+        ensures absent { IsErr result ↔ (handle_of self.old h ≡ None) }
         ensures unchanged { OnErr result (self.new ≡ self.old) }
-        ensures named { IfOk result (λ object. handle_of self.old handle ≡ Some object) }
-        ensures closed { self.new ≡ without_handle self.old handle }
+        ensures named { IfOk result (λ object. handle_of self.old h ≡ Some object) }
+        ensures closed { self.new ≡ without_handle self.old h }
         ensures rising { AreRisingFrom 1 self.new }
     {
-        let place = place_of(handle);
+        let place = place_of(h);
         match self.places[place] {
             Some(object) => {
                 self.places[place] = None;
@@ -106,13 +106,13 @@ impl Handles {
         Ok(Handles { places: kept })
     }
 
-    /// How many handles name `object`, by the same end of a pipe or face of the terminal.
-    pub fn count_of(&self, object: ObjectNo) -> u8
-        ensures { result ≡ holders_of self.now object }
+    /// How many handles name the object `o`, by the same end of a pipe or face of the terminal.
+    pub fn count_of(&self, o: ObjectNo) -> u8
+        ensures { result ≡ holders_of self.now o }
     {
         let mut count = 0;
         for place in &self.places {
-            if *place == Some(object) {
+            if *place == Some(o) {
                 count += 1;
             }
         }
@@ -120,11 +120,11 @@ impl Handles {
     }
 
     /// What a handle names, or none exactly where no handle has this number.
-    pub fn get(&self, handle: HandleNo) -> Option<ObjectNo>
-        ensures named { result ≡ handle_of self.now handle }
+    pub fn get(&self, h: HandleNo) -> Option<ObjectNo>
+        ensures named { result ≡ handle_of self.now h }
         ensures rising { AreRisingFrom 1 self.now }
     {
-        self.places[place_of(handle)]
+        self.places[place_of(h)]
     }
 }
 

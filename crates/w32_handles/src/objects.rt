@@ -40,7 +40,8 @@ impl<K> Held<K> {
 
     // The object.
     fn object(&self) -> &K
-        ensures { result.now ≡ self.now.object }
+        ensures value { result.now ≡ self.now.object }
+        ensures held { 0 < self.now.holders }
     {
         &self.object
     }
@@ -138,7 +139,8 @@ impl<K: Drop> Objects<K> {
     /// An object.
     pub fn get(&self, o: ObjectNo) -> &K
         requires { IsSome (object_at self.now o) }
-        ensures { IsSomeAnd (object_at self.now o) (λ kept. kept.object ≡ result.now) }
+        ensures value { IsSomeAnd (object_at self.now o) (λ kept. kept.object ≡ result.now) }
+        ensures held { IsSomeAnd (object_at self.now o) (λ kept. 0 < kept.holders) }
     {
         self.slab[place_of(o)].object()
     }

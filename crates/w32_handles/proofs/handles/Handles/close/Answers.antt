@@ -6,7 +6,7 @@ use Rattle.w32_handles.proofs.handles.Handles.close.Goals as goal
 pub returns-in-Some-clause-absent : goal.returns-in-Some-clause-absent
 returns-in-Some-clause-absent c =
     let found = named_at c.self.inside.places _ c.self.view_is c.self.invariant _ _ _ _ c.place_of-place.ensures.place c.place_of-place.ensures.range c.in-Some.is in
-    (λ e. absurd (true≢false (sym e)), λ none. absurd (let empty : handle_of c.args.self.now c.args.handle ≡ None = none in cc))
+    (λ e. absurd (true≢false (sym e)), λ none. absurd (let empty : handle_of c.args.self.now c.args.h ≡ None = none in cc))
 
 pub returns-in-Some-clause-named : goal.returns-in-Some-clause-named
 returns-in-Some-clause-named c =

@@ -1,4 +1,4 @@
-use Rattle.std.proofs.Common.{◌≡◌, length, sym, refl, arith, true≢false}
+use Rattle.std.proofs.Common.{sym, refl, arith, true≢false}
 use Rattle.w32_handles.proofs.PlaceLemmas.{lowest_at, opened_at, not_full_at, full_now, rising_now, rising_after}
 use Rattle.w32_handles.proofs.handles.Handles.open.Goals as goal
 
