@@ -1,0 +1,5 @@
+use Rattle.w32_handles.proofs.PlaceLemmas.{AreKept}
+use Rattle.w32_handles.proofs.handles.Handles.inherit.Given as goal
+
+abbrev pub invariant-loop-next : goal.invariant-loop-next
+invariant-loop-next l = AreKept l.self-inside.places l.self l.list l.kept l.next
