@@ -1,0 +1,3 @@
+//! The layer: what the threads of the first path do with the replies to their calls.
+
+pub mod step;

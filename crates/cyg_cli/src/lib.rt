@@ -1,0 +1,5 @@
+//! The top call of the program: from the words and the bytes of a script to the bytes of its log.
+#![tactic(auto)]
+
+mod layer;
+mod rows;
