@@ -1,8 +1,6 @@
 //! A source and a sink that never have a fault.
 
-ghost use Rattle.std.specs.Prelude.{◌≡◌, ◌+◌, ◌<◌, ◌≤◌, ◌↔◌, ◌++◌, [], length, take, min, IsOk, IfOk, None, Some, Ok};
-ghost use Rattle.std.specs.Io.KnownBytes.{Consumes};
-ghost use Rattle.cyg_io.specs.Counts.{NeverFalls, RoseBy};
+ghost use Rattle.std.specs.Prelude.{◌≡◌, length, None, Some, Ok};
 
 use crate::sink::{Sink, WriteFailed};
 use crate::source::{ReadFailed, Source};
@@ -67,7 +65,9 @@ impl Sink for CleanSink {
 
     ghost faults = { λ _. 0 };
 
-    fn write(&mut self, piece: &[u8]) -> Result<usize, WriteFailed> {
+    fn write(&mut self, piece: &[u8]) -> Result<usize, WriteFailed>
+        ensures { result ≡ Ok (length piece.now) }
+    {
         Ok(piece.len())
     }
 }

@@ -1,6 +1,6 @@
 //! A source and a sink in memory, with calls that are to fail.
 
-ghost use Rattle.std.specs.Prelude.{◌≡◌, ◌+◌, ◌-◌, ◌^◌, ◌<◌, ◌≤◌, ◌↔◌, ◌++◌, ℕ, [], length, take, drop, min, IsTrue, IsErr, IfOk, OnOk, OnErr, Contains, Some};
+ghost use Rattle.std.specs.Prelude.{◌≡◌, ◌+◌, ◌-◌, ◌^◌, ◌<◌, ◌≤◌, ◌↔◌, ◌++◌, [], length, take, min, IsTrue, IsErr, IfOk, OnOk, OnErr, Contains, Some};
 ghost use Rattle.cyg_io.specs.Counts.{NeverFalls, RoseBy};
 ghost use Rattle.cyg_io.specs.States.{next_call, IsRefused};
 
@@ -37,8 +37,13 @@ impl Model for MemSource {
     ghost Value = { MemorySource };
 
     ghost view = { λ s. record {
-        left = s.supply.left; fails = s.fails.items; calls = s.calls;
-        faults = s.faults; given = s.supply.given; ends = s.supply.ends } };
+      left = s.supply.left;
+      fails = s.fails.items;
+      calls = s.calls;
+      faults = s.faults;
+      given = s.supply.given;
+      ends = s.supply.ends;
+    } };
 
     ghost invariant = { λ s. (s.faults < 2 ^ 64) × (s.supply.given < 2 ^ 64) × (s.supply.ends < 2 ^ 64) };
 }
@@ -133,7 +138,12 @@ impl Model for MemSink {
     ghost Value = { MemorySink };
 
     ghost view = { λ s. record {
-        held = s.bytes.items; room = s.room; fails = s.fails.items; calls = s.calls; faults = s.faults } };
+      held = s.bytes.items;
+      room = s.room;
+      fails = s.fails.items;
+      calls = s.calls;
+      faults = s.faults;
+    } };
 
     ghost invariant = { λ s. (length s.bytes.items ≤ s.room) × (s.room ≤ vec_capacity s.bytes) };
 }

@@ -16,3 +16,6 @@ pub use in_memory::{MemSink, MemSource, Memory};
 pub use over_std::{StdSink, StdSource};
 pub use sink::{Sink, WriteFailed, write_all};
 pub use source::{ReadAllFault, ReadFailed, Source, read_all};
+
+#[cfg(test)]
+mod tests;

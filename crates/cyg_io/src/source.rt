@@ -67,13 +67,8 @@ pub enum ReadAllFault {
 // How many bytes are read at once.
 const CHUNK: usize = 4096;
 
-/// All bytes up to the end, where there are at most `most`. It reads one byte more than that at the most,
-/// and takes no more memory than the bytes read need.
-pub fn read_all<S: Source>(
-    alloc: Global,
-    src: &mut S,
-    most: usize,
-) -> Result<Vec<u8>, ReadAllFault>
+/// All bytes up to the end, where there are at most `most`. It reads one byte more than that at the most.
+pub fn read_all<S: Source>(alloc: Global, src: &mut S, most: usize) -> Result<Vec<u8>, ReadAllFault>
     // All that was left, up to the end, which the source has answered.
     ensures bytes { IfOk result (λ v. IfSome (S.remaining src.old) (λ left. v.items ≡ left)) }
     ensures none_left { OnOk result (IfSome (S.remaining src.old) (λ _. S.remaining src.new ≡ Some [])) }
@@ -92,7 +87,7 @@ pub fn read_all<S: Source>(
 {
     let mut buf = [0u8; CHUNK];
     let mut bytes = Vec::new(alloc);
-    loop {
+    'reading: loop {
         let allowed = most - bytes.len();
         let piece = &mut buf[..CHUNK.min(allowed.saturating_add(1))];
         let Ok(count) = src.read(piece) else {

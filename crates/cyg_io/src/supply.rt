@@ -1,6 +1,6 @@
 // Bytes that are given out in order, with the counts of what was given.
 
-ghost use Rattle.std.specs.Prelude.{◌≡◌, ◌+◌, ◌<◌, ◌≤◌, ◌↔◌, ◌++◌, [], length, take, drop, min};
+ghost use Rattle.std.specs.Prelude.{◌≡◌, ◌+◌, ◌<◌, ◌≤◌, ◌++◌, length, take, drop, min};
 ghost use Rattle.cyg_io.specs.Counts.{NeverFalls, RoseBy};
 
 use std::marker::Model;

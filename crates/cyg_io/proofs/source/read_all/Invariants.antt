@@ -2,8 +2,8 @@ use Rattle.std.proofs.Common.{◌≡◌, ◌+◌, ◌-◌, ◌^◌, ◌≤◌, m
 use Rattle.std.specs.Io.KnownBytes.{Consumes}
 use Rattle.cyg_io.proofs.source.read_all.Given as goal
 
-abbrev pub invariant-loop-count : goal.invariant-loop-count
-invariant-loop-count g l = record {
+abbrev pub invariant-reading : goal.invariant-reading
+invariant-reading g l = record {
   few : vec_len l.bytes ≤ l.most;
   bytes : Consumes (g.S.Source.remaining l.initial.src) (g.S.Source.remaining l.src) l.bytes.items;
   given : g.S.Source.given l.src ≡ min (g.S.Source.given l.initial.src + vec_len l.bytes) (max (g.S.Source.given l.initial.src) (2 ^ 64 - 1));
@@ -11,5 +11,5 @@ invariant-loop-count g l = record {
   faults : g.S.Source.faults l.initial.src ≤ g.S.Source.faults l.src;
 }
 
-abbrev pub decreases-loop-count : goal.decreases-loop-count
-decreases-loop-count g l = l.most - vec_len l.bytes
+abbrev pub decreases-reading : goal.decreases-reading
+decreases-reading g l = l.most - vec_len l.bytes
