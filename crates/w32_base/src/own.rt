@@ -1,6 +1,6 @@
 //! The memory of a process.
 
-ghost use Rattle.std.specs.Prelude.{◌≡◌, ◌<◌, ◌≤◌, length, IfOk, slice_get, slice_index, slice_set, replicate, IsTrue, ◌↔◌, []};
+ghost use Rattle.std.specs.Prelude.{◌≡◌, ◌+◌, ◌<◌, ◌≤◌, ◌++◌, length, take, drop, IfOk, slice_get, slice_index, slice_set, replicate, IsTrue, ◌↔◌, []};
 
 use std::alloc::{AllocError, Global};
 use std::marker::Model;
@@ -77,6 +77,14 @@ impl Bytes {
         ensures { self.new ≡ slice_set self.old index byte }
     {
         self.bytes[index] = byte;
+    }
+
+    /// Copies bytes in from a place on. The others stay.
+    pub fn copy_in(&mut self, place: usize, from: &[u8])
+        requires { place + length from.now ≤ length self.old }
+        ensures { self.new ≡ take place self.old ++ from.now ++ drop (place + length from.now) self.old }
+    {
+        self.bytes[place..place + from.len()].copy_from_slice(from);
     }
 }
 
