@@ -31,12 +31,15 @@ all_from_free taken base size room free = λ k d inside.
     ∙ get_or_default taken (base + k) d true there
     ∙ free.free (base + k) (omega arith) (omega arith)
 
--- no lower range is free, so a free one doesn't begin lower
-pub begins_past : (taken : List Bool) (base free size : ℕ) → ((lower : ℕ) → lower < base → IsFreeRange taken lower size → ⊥) →
-    IsFreeRange taken free size → base ≤ free
-begins_past taken base free size none_below h = elim (cases_lt free base) [
-  | inl below ↦ absurd (none_below free below h)
-  | inr past ↦ past
+-- where each free range begins at a page or past it, and none at that page, each begins at the next one or past it
+pub begins_later : (taken : List Bool) (base size : ℕ) → ((lower : ℕ) → IsFreeRange taken lower size → base ≤ lower) →
+    (IsFreeRange taken base size → ⊥) → (lower : ℕ) → IsFreeRange taken lower size → base + 1 ≤ lower
+begins_later taken base size at_or_past none_here lower free = elim (cases_lt base lower) [
+  | inl past ↦ omega arith
+  | inr not_past ↦
+      let IsFree : ℕ → Type 0 = λ page. IsFreeRange taken page size in
+      let here : lower ≡ base = omega (arith, at_or_past lower free) in
+      absurd (none_here (subst IsFree here free))
 ]
 
 -- a test of the pages between two places tells whether the range that they make is free

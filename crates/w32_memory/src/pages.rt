@@ -1,6 +1,6 @@
 //! The pages of a process, where modules are placed.
 
-ghost use Rattle.std.specs.Prelude.{◌≡◌, ◌↔◌, ℕ, IsTrue, All, false};
+ghost use Rattle.std.specs.Prelude.{◌≡◌, ◌≤◌, ◌↔◌, ℕ, IsTrue, All, false};
 ghost use Rattle.win32_spec.specs.Regions.{IsFreeRange, IsPlaceFor};
 
 /// How many pages a process has.
@@ -13,8 +13,18 @@ pub fn place(wanted: u16, size: u16, taken: &[bool; 1024]) -> u16
     ensures { IsPlaceFor taken.now wanted size result }
 {
     if is_free(taken, wanted, size) {
-        return wanted;
+        wanted
+    } else {
+        lowest_free(size, taken)
     }
+}
+
+/// The lowest page from which `size` pages are free.
+fn lowest_free(size: u16, taken: &[bool; 1024]) -> u16
+    requires { (base : ℕ) × IsFreeRange taken.now base size }
+    ensures free { IsFreeRange taken.now result size }
+    ensures lowest { (lower : ℕ) → IsFreeRange taken.now lower size → result ≤ lower }
+{
     let mut base = 0;
     while !is_free(taken, base, size) {
         base += 1;

@@ -1,9 +1,0 @@
-use Rattle.std.proofs.Common.{ℕ, ◌-◌, ◌<◌}
-use Rattle.win32_spec.specs.Regions.{IsFreeRange}
-use Rattle.w32_memory.proofs.pages.place.Given as goal
-
-abbrev pub invariant-loop-base : goal.invariant-loop-base
-invariant-loop-base l = (lower : ℕ) → lower < l.base → IsFreeRange l.taken lower l.size → ⊥
-
-abbrev pub decreases-loop-base : goal.decreases-loop-base
-decreases-loop-base l = 1025 - l.base
