@@ -13,8 +13,8 @@ IsShort-push n len i b bytes e room h = record {
   room = length-set bytes i b ∙ h.room;
   within = omega arith;
   zeros = let lower : i < len + 1 = omega arith in
-    let less : n - len - 1 ≡ n - (len + 1) = omega arith in
-    drop-set-lt (len + 1) bytes i b lower ∙ drop-more n len bytes h ∙ rw h.zeros (rw drop-replicate (rw less refl));
+      let less : n - len - 1 ≡ n - (len + 1) = omega arith in
+      drop-set-lt (len + 1) bytes i b lower ∙ drop-more n len bytes h ∙ rw h.zeros (rw drop-replicate (rw less refl));
 }
 
 -- a short list with room shows fewer bytes than it has room for

@@ -1,5 +1,5 @@
 -- The regions of a process's memory, and where modules are placed.
-use Rattle.std.specs.Prelude.{◌≡◌, ◌≢◌, ℕ, ◌+◌, ◌≤◌, ◌<◌, Bool, true, false, nat_eq, nat_le, ◌||◌, List, ◌++◌, length, take, drop, slice_index_or, ◌⊎◌}
+use Rattle.std.specs.Prelude.{◌≡◌, ◌≢◌, ℕ, ◌+◌, ◌≤◌, ◌<◌, Bool, true, false, nat_eq, nat_le, ◌||◌, List, ◌++◌, length, take, drop, replicate, slice_index_or, ◌⊎◌}
 use Rattle.w32_base.specs.declared.own.Own.{Own}
 use Rattle.w32_base.specs.declared.call.Region.{Region}
 use Rattle.w32_base.specs.declared.call.Region.TheVariants.{Dat, Heap, Stack, Cyg, Scratch}
@@ -31,6 +31,11 @@ range_of bytes place count = take count (drop place bytes)
 -- the region with these bytes written from a place on
 abbrev pub written : List ℕ → ℕ → List ℕ → List ℕ
 written bytes place new = take place bytes ++ new ++ drop (place + length new) bytes
+
+-- the memory of a new process, but for its program's number in the data region: zeros
+abbrev pub zeroed_own : (heap stack : ℕ) → Own
+zeroed_own heap stack =
+    record { dat = replicate 64 0; heap = replicate heap 0; stack = replicate stack 0; cyg = replicate 288 0; scratch = replicate 512 0 }
 
 -- the pages from base on, size of them, lie among the 1024 and none of them is taken
 pub record IsFreeRange (taken : List Bool) (base size : ℕ) : Type 0 where
