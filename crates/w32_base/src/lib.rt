@@ -23,3 +23,6 @@ pub use numbers::{Acting, HandleNo, Number, ObjectNo, Pid, RowNo, Slot, ThreadNo
 pub use own::{Bytes, Own};
 pub use part::{After, Part, Whole};
 pub use setup::{Code, Limits, Module, Modules, Program, Programs, Setup};
+
+#[cfg(test)]
+mod tests;

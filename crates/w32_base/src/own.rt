@@ -1,11 +1,7 @@
 //! The memory of a process.
 
-<<<<<<< HEAD
 ghost use Rattle.std.specs.Prelude.{◌≡◌, ◌<◌, ◌≤◌, length, IfOk, slice_get, slice_index, slice_set, replicate, IsTrue, ◌↔◌, [], ◌+◌, ◌++◌, take, drop};
 ghost use Rattle.std.specs.Int.{w32, from_le_bytes, to_le_bytes};
-=======
-ghost use Rattle.std.specs.Prelude.{◌≡◌, ◌+◌, ◌<◌, ◌≤◌, ◌++◌, length, take, drop, IfOk, slice_get, slice_index, slice_set, replicate, IsTrue, ◌↔◌, []};
->>>>>>> 36b45d73dcaad083b35c1d6f4f003e43cb65cb72
 
 use std::alloc::{AllocError, Global};
 use std::marker::Model;
@@ -84,7 +80,6 @@ impl Bytes {
         self.bytes[index] = byte;
     }
 
-<<<<<<< HEAD
     /// The number in four bytes from a place on, the lowest byte first.
     pub fn word(&self, index: usize) -> u32
         requires { index + 4 ≤ length self.now }
@@ -101,14 +96,14 @@ impl Bytes {
     {
         let place = &mut self.bytes.as_mut_slice()[index..index + 4];
         place.copy_from_slice(&word.to_le_bytes());
-=======
+    }
+
     /// Copies bytes in from a place on. The others stay.
     pub fn copy_in(&mut self, place: usize, from: &[u8])
         requires { place + length from.now ≤ length self.old }
         ensures { self.new ≡ take place self.old ++ from.now ++ drop (place + length from.now) self.old }
     {
         self.bytes[place..place + from.len()].copy_from_slice(from);
->>>>>>> 36b45d73dcaad083b35c1d6f4f003e43cb65cb72
     }
 }
 
