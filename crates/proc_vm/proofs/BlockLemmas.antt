@@ -1,9 +1,9 @@
 -- How a block has come so far, and how it goes on and ends.
-use Rattle.std.proofs.Common.{◌≡◌, ◌≢◌, ℕ, zero, suc, ◌+◌, ◌<◌, ◌≤◌, List, length, refl, sym, ◌∙◌, ap, arith, add-one, below_more, ◌↔◌, IsTrue, true, false, cond}
+use Rattle.std.proofs.Common.{◌≡◌, ℕ, zero, suc, ◌+◌, ◌<◌, ◌≤◌, List, length, refl, ◌∙◌, ap, arith, add-one, below_more}
 use Rattle.w32_base.specs.declared.own.Own.{Own}
 use Rattle.w32_base.specs.declared.instr.Instr.{Instr}
-use Rattle.vm_spec.specs.Image.{Image, image_of, with_image, SameSizes}
-use Rattle.vm_spec.specs.Step.{upcoming, LocalInstruction, local_step, block_of, IsBlock}
+use Rattle.vm_spec.specs.Image.{image_of, with_image, SameSizes}
+use Rattle.vm_spec.specs.Step.{upcoming, LocalInstruction, local_step, block_of}
 
 -- after n local instructions from the memory `old`
 pub record IsDone (code : List Instr) (old new : Own) (n : ℕ) : Type 0 where
@@ -34,11 +34,11 @@ unfolding block_of
 IsDone-more code old now new n h local is len sizes =
     let image_is = IsDone-image code old now n h in
     record {
-  value = rw add-one (is ∙ ap (λ i. with_image now (local_step code i)) image_is ∙ ap (λ (o : Own). with_image o (local_step code (block_of n code (image_of old)))) h.value);
-  local = below_more _ n h.local (rw image_is at local);
-  len = len;
-  sizes = record { dat = sizes.dat ∙ h.sizes.dat; heap = sizes.heap ∙ h.sizes.heap; stack = sizes.stack ∙ h.sizes.stack };
-}
+      value = rw add-one (is ∙ ap (λ i. with_image now (local_step code i)) image_is ∙ ap (λ (o : Own). with_image o (local_step code (block_of n code (image_of old)))) h.value);
+      local = below_more _ n h.local (rw image_is at local);
+      len = len;
+      sizes = record { dat = sizes.dat ∙ h.sizes.dat; heap = sizes.heap ∙ h.sizes.heap; stack = sizes.stack ∙ h.sizes.stack };
+    }
 
 -- a block whose first instruction is local has one at the least where the next is not local
 pub IsDone-least : (code : List Instr) (old now : Own) (n : ℕ) → IsDone code old now n →

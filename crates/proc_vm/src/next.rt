@@ -89,7 +89,7 @@ pub fn next_instr(own: &Own, p: &Program) -> Next
 }
 
 /// Whether this instruction faults, where no more bytes of stack are in use than the stack has.
-pub fn is_refused(own: &Own, instr: &Instr) -> bool
+fn is_refused(own: &Own, instr: &Instr) -> bool
     requires { length own.now.dat ≡ 64 }
     ensures { result ≡ instr_faults instr.now (image_of own.now) }
 {
@@ -101,14 +101,18 @@ pub fn is_refused(own: &Own, instr: &Instr) -> bool
         Instr::Pop(_) => stack_in_use(own) < 4,
         Instr::Return => stack_in_use(own) < 40,
         Instr::Read(address, count) | Instr::Write(address, count) => {
-            is_range_outside(own.heap.len(), operand_value(own, address), operand_value(own, count))
+            is_range_outside(
+                own.heap.len(),
+                operand_value(own, address),
+                operand_value(own, count),
+            )
         }
         _ => false,
     }
 }
 
 /// Whether an address is that of no byte in a region of this size.
-pub fn is_outside(size: usize, address: i32) -> bool
+fn is_outside(size: usize, address: i32) -> bool
     ensures { result ≡ is_outside size address }
 {
     address < 0 || address as usize >= size

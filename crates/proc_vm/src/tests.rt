@@ -13,7 +13,8 @@ fn has_target_below(instr: &Instr, n: usize) -> bool
     ensures { result ≡ is_target_below n instr.now }
 {
     match *instr {
-        Instr::Jump(place) | Instr::JumpZero(_, place) | Instr::JumpNegative(_, place) => (place as usize) < n,
+        Instr::Jump(place) | Instr::JumpZero(_, place) | Instr::JumpNegative(_, place) =>
+            (place as usize) < n,
         Instr::Action(_, Action::Handler(place, _)) => (place as usize) < n,
         _ => true,
     }
@@ -109,7 +110,10 @@ fn a_block_ends_at_256(rt: HostRuntime) -> Result<(), Fail> {
     assert_eq!(rt; block(&mut own, &p), 44);
     assert_eq!(rt; block(&mut own, &p), 0);
     assert_eq!(rt; register(&own, r(0)), 300);
-    assert_eq!(rt; next_instr(&own, &p), Next::Call(CallInstr::Exit(Operand::Register(r(0)))));
+    assert_eq!(rt;
+        next_instr(&own, &p),
+        Next::Call(CallInstr::Exit(Operand::Register(r(0))))
+    );
     Ok(())
 }
 
@@ -178,7 +182,11 @@ fn each_fault_at_its_edge(rt: HostRuntime) -> Result<(), Fail> {
         (0, Instr::Write(number(71), number(0)), false),
     ];
     for (used, instr, wanted) in &cases {
-        assert_eq!(rt; faults(rt.alloc(), *used, *instr)?, *wanted, "{instr:?} with {used} in use");
+        assert_eq!(rt;
+            faults(rt.alloc(), *used, *instr)?,
+            *wanted,
+            "{instr:?} with {used} in use"
+        );
     }
     let p = program(rt.alloc(), &[Instr::Jump(0)])?;
     let mut own = memory(rt.alloc(), 0)?;

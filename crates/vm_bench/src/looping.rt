@@ -12,7 +12,6 @@ const HEAP: u16 = 32_768;
 /// How many bytes the stack has.
 const STACK: u16 = 64;
 
-
 /// A program that goes over its heap again and again: it adds the address to each byte and stores it, and adds the
 /// byte to r3 by way of the stack. It has each kind of local instruction and never ends.
 pub fn loop_program(alloc: Global) -> Result<Program> {

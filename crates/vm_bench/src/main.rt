@@ -31,9 +31,10 @@ fn run_blocks(own: &mut Own, p: &Program, blocks: u32) -> u64
 
 /// A number that changes with each byte.
 fn checksum(bytes: &[u8]) -> u32 {
-    bytes
-        .iter()
-        .fold(0u32, |sum, byte| sum.wrapping_mul(31).wrapping_add(u32::from(*byte)))
+    bytes.iter().fold(
+        0u32,
+        |sum, byte| sum.wrapping_mul(31).wrapping_add(u32::from(*byte)),
+    )
 }
 
 fn main(rt: HostRuntime) -> Result<()> {

@@ -13,6 +13,6 @@ not_shorter code image m n p q l =
 pub IsBlock-unique : (code : List Instr) (image : Image) (m n : ℕ) → IsBlock code image m → IsBlock code image n → m ≡ n
 IsBlock-unique code image m n p q =
     elim (cases_order m n) [
-        inl e ↦ e
+      | inl e ↦ e
       | inr other ↦ elim other [ inl l ↦ absurd (not_shorter code image m n p q l) | inr l ↦ absurd (not_shorter code image n m q p l) ]
     ]

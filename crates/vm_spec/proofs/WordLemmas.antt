@@ -1,5 +1,5 @@
 -- Numbers in four bytes of a list.
-use Rattle.std.proofs.Common.{◌≡◌, ℕ, ◌+◌, ◌-◌, ◌*◌, ◌/◌, ◌%◌, ◌^◌, ◌≤◌, ◌<◌, List, [], ◌∷◌, ◌++◌, length, take, drop, get_or, refl, sym, ◌∙◌, ap, arith, length-append, length-take, length-drop}
+use Rattle.std.proofs.Common.{◌≡◌, ℕ, ◌+◌, ◌-◌, ◌/◌, ◌%◌, ◌^◌, ◌≤◌, ◌<◌, List, ◌++◌, length, take, drop, get_or, refl, sym, ◌∙◌, ap, arith, length-append, length-take, length-drop}
 use Rattle.std.proofs.lemmas.List.{length-take-le, drop-append-le, drop_at, get_or_append_left, get_or-append_right, get_or-take, get_or-drop}
 use Rattle.std.proofs.lemmas.Nat.{from_le_bytes-to_le_bytes_4}
 use Rattle.std.specs.Int.{w32, to_le_bytes, from_le_bytes}
@@ -29,8 +29,8 @@ word_at-with_word xs place n h fits =
     let front : length (take place xs) ≡ place = length-take-le place xs (omega arith) in
     let room : place ≤ length (take place xs ++ to_le_bytes w32 n) = omega (arith, front, length-append (take place xs) (to_le_bytes w32 n)) in
     let rest : drop place (take place xs ++ to_le_bytes w32 n ++ drop (place + 4) xs) ≡ to_le_bytes w32 n ++ drop (place + 4) xs =
-        drop-append-le place (take place xs ++ to_le_bytes w32 n) (drop (place + 4) xs) room
-        ∙ ap (λ bytes. bytes ++ drop (place + 4) xs) (drop_at (take place xs) (to_le_bytes w32 n) place front)
+    drop-append-le place (take place xs ++ to_le_bytes w32 n) (drop (place + 4) xs) room
+    ∙ ap (λ bytes. bytes ++ drop (place + 4) xs) (drop_at (take place xs) (to_le_bytes w32 n) place front)
     in
     ap (λ bytes. from_le_bytes w32 (take 4 bytes)) rest ∙ from_le_bytes-to_le_bytes_4 n fits
 
@@ -60,8 +60,8 @@ word_at-bytes : (xs ys : List ℕ) (q : ℕ) → ((k : ℕ) → k < 4 → get_or
 unfolding word_at
 word_at-bytes xs ys q same =
     let at : (k : ℕ) → k < 4 → get_or (take 4 (drop q xs)) k 0 ≡ get_or (take 4 (drop q ys)) k 0 =
-        λ k l. get_or-take 4 (drop q xs) k 0 l ∙ get_or-drop q xs k 0 ∙ same k l
-        ∙ sym (get_or-drop q ys k 0) ∙ sym (get_or-take 4 (drop q ys) k 0 l)
+    λ k l. get_or-take 4 (drop q xs) k 0 l ∙ get_or-drop q xs k 0 ∙ same k l
+    ∙ sym (get_or-drop q ys k 0) ∙ sym (get_or-take 4 (drop q ys) k 0 l)
     in
     omega (arith, at 0 (omega arith), at 1 (omega arith), at 2 (omega arith), at 3 (omega arith))
 

@@ -1,5 +1,5 @@
 -- What is next in a program, and what local instructions do to the image.
-use Rattle.std.specs.Prelude.{◌≡◌, ◌≢◌, ℕ, zero, suc, ◌+◌, ◌-◌, ◌*◌, ◌%◌, ◌<◌, ◌≤◌, ℤ, pos, negsuc, ◌+ℤ◌, Bool, true, false, nat_eq, if◌then◌else◌, List, slice_set, slice_index, slice_get, Option, Some, None}
+use Rattle.std.specs.Prelude.{◌≡◌, ◌≢◌, ℕ, zero, suc, ◌+◌, ◌-◌, ◌%◌, ◌<◌, ◌≤◌, ℤ, pos, negsuc, ◌+ℤ◌, Bool, true, false, nat_eq, if◌then◌else◌, List, slice_set, slice_index, slice_get, Option, Some, None}
 use Rattle.std.specs.Int.{w32, int_wrap, cast_signed, cast_unsigned}
 use Rattle.w32_base.specs.declared.instr.Instr.{Instr}
 use Rattle.w32_base.specs.declared.instr.Instr.TheVariants as instr

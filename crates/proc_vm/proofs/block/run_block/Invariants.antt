@@ -1,4 +1,3 @@
-
 use Rattle.proc_vm.proofs.BlockLemmas.{IsDone}
 use Rattle.proc_vm.proofs.block.run_block.Given as goal
 

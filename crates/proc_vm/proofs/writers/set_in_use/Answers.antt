@@ -1,4 +1,4 @@
-use Rattle.std.proofs.Common.{rules, ◌≡◌}
+use Rattle.std.proofs.Common.{rules}
 use Rattle.vm_spec.proofs.WordLemmas.{with_word-wrapped}
 use Rattle.proc_vm.proofs.writers.set_in_use.Goals as goal
 
