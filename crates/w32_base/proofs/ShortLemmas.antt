@@ -1,5 +1,5 @@
 -- A short list that gets one more byte stays one.
-use Rattle.std.proofs.Common.{◌≡◌, ℕ, ◌+◌, ◌-◌, ◌≤◌, ◌<◌, List, length, take, drop, slice_set, sym, ◌∙◌, ap, arith, refl}
+use Rattle.std.proofs.Common.{◌≡◌, ℕ, ◌+◌, ◌-◌, ◌<◌, List, length, drop, slice_set, sym, ◌∙◌, ap, arith, refl}
 use Rattle.std.proofs.lemmas.List.{drop-replicate, drop-drop, drop-set-lt, length-set}
 use Rattle.w32_base.specs.Short.{shown, IsShort}
 use Rattle.w32_base.specs.ShortLaws.{length-shown}

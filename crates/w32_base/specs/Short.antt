@@ -1,5 +1,5 @@
 -- A short list kept in an array of fixed length: its first bytes, and zeros after them.
-use Rattle.std.specs.Prelude.{◌≡◌, ℕ, ◌+◌, ◌-◌, ◌≤◌, ◌<◌, List, ◌++◌, length, take, drop, replicate, slice_index}
+use Rattle.std.specs.Prelude.{◌≡◌, ℕ, ◌-◌, ◌≤◌, ◌<◌, List, ◌++◌, length, take, drop, replicate, slice_index}
 
 -- the bytes that count
 abbrev pub shown : ℕ → List ℕ → List ℕ

@@ -1,7 +1,7 @@
 -- The array of a short list is given back by the bytes that it shows.
-use Rattle.std.specs.Prelude.{◌≡◌, ℕ, ◌+◌, ◌-◌, ◌≤◌, ◌<◌, List, [], ◌∷◌, ◌++◌, length, take, drop, replicate, slice_set, refl}
+use Rattle.std.specs.Prelude.{◌≡◌, ℕ, List, ◌++◌, length, take}
 use Rattle.std.proofs.Common.{sym, ◌∙◌, ap, arith}
-use Rattle.std.proofs.lemmas.List.{take-append-drop, length-take-le, take_more_set}
+use Rattle.std.proofs.lemmas.List.{take-append-drop, length-take-le}
 use Rattle.w32_base.specs.Short.{shown, IsShort, filled}
 use Rattle.w32_base.specs.declared.lists.ShortBytes.TheInside.{Inside}
 

@@ -86,7 +86,12 @@ impl Bytes {
         ensures { result ≡ from_le_bytes w32 (take 4 (drop index self.now)) }
     {
         let bytes = self.bytes.as_slice();
-        u32::from_le_bytes([bytes[index], bytes[index + 1], bytes[index + 2], bytes[index + 3]])
+        u32::from_le_bytes([
+            bytes[index],
+            bytes[index + 1],
+            bytes[index + 2],
+            bytes[index + 3],
+        ])
     }
 
     /// Writes a number into four bytes from a place on, the lowest byte first.

@@ -1,8 +1,9 @@
 //! Each call once on its happy path, and the edges that the types keep.
 
 use crate::{
-    Acting, Bytes, Code, Directive, Entry, HandleList, HandleNo, Instr, Journal, Limits, Module, Modules, Name, Number,
-    ObjectNo, Operand, Outcome, Pid, Program, Programs, Register, RowNo, ShortBytes, Slot, ThreadNo, WinNo,
+    Acting, Bytes, Code, Directive, Entry, HandleList, HandleNo, Instr, Journal, Limits, Module,
+    Modules, Name, Number, ObjectNo, Operand, Outcome, Pid, Program, Programs, Register, RowNo,
+    ShortBytes, Slot, ThreadNo, WinNo,
 };
 use std::test::Fail;
 
@@ -21,7 +22,10 @@ fn numbers_keep_their_ranges(rt: HostRuntime) -> Result<(), Fail> {
     assert_eq!(rt; Acting::process(Pid::new(2)).get(), 2);
     assert_eq!(rt; Acting::host().get(), 0);
     assert!(rt; Number::try_new(4_294_967_296).is_none());
-    assert_eq!(rt; Number::try_new(-2_147_483_648).ok_or("number")?.get(), -2_147_483_648);
+    assert_eq!(rt;
+        Number::try_new(-2_147_483_648).ok_or("number")?.get(),
+        -2_147_483_648
+    );
     assert_eq!(rt; Number::signed(-1).get(), -1);
     assert_eq!(rt; Number::unsigned(7).get(), 7);
     assert_eq!(rt; WinNo::new(3).get(), 3);
@@ -79,12 +83,25 @@ fn a_setup_has_its_parts(rt: HostRuntime) -> Result<(), Fail> {
     assert_eq!(rt; modules.len(), 0);
     assert_eq!(rt; modules.as_slice().len(), 0);
     let name = Name::try_new(b"main").ok_or("name")?;
-    let module = Module { name, base: 10, size: 4 };
+    let module = Module {
+        name,
+        base: 10,
+        size: 4,
+    };
     assert_eq!(rt; module.base, 10);
-    let limits = Limits { slots: 1, rows: 1, budget: 1 };
+    let limits = Limits {
+        slots: 1,
+        rows: 1,
+        budget: 1,
+    };
     assert_eq!(rt; limits.budget, 1);
     let code = Code::from_vec(vec![in rt.alloc(); Instr::GetPid]?);
-    let program = Program { name, heap: 0, stack: 64, code };
+    let program = Program {
+        name,
+        heap: 0,
+        stack: 64,
+        code,
+    };
     let programs = Programs::from_vec(vec![in rt.alloc(); program]?);
     assert_eq!(rt; programs.len(), 1);
     assert!(rt; !programs.is_empty());

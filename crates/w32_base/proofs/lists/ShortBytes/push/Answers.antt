@@ -1,4 +1,3 @@
-use Rattle.std.proofs.Common.{arith}
 use Rattle.w32_base.proofs.ShortLemmas.{IsShort-push, less_than_room}
 use Rattle.w32_base.proofs.lists.ShortBytes.push.Goals as goal
 
