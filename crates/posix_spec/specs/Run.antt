@@ -1,5 +1,5 @@
 -- Runs of the POSIX machine.
-use Rattle.std.specs.Prelude.{◌≡◌, List, [], ◌∷◌, Option, Some, None}
+use Rattle.std.specs.Prelude.{◌≡◌, List, [], ◌∷◌, Some}
 use Rattle.w32_base.specs.declared.event.Event.{Event}
 use Rattle.w32_base.specs.declared.instr.Instr.{Instr}
 use Rattle.posix_spec.specs.State.{PosixState}

@@ -1,5 +1,5 @@
 -- Signal sets (POSIX.1-2017, XSH 2.4): signal s from 1 to 31 is bit s - 1 of a number.
-use Rattle.std.specs.Prelude.{ℕ, ◌+◌, ◌-◌, ◌^◌, Bool, true, false, ◌||◌, ◌&&◌, not, nat_eq, nat_lt, nat_le, if◌then◌else◌, bit_and, bit_or}
+use Rattle.std.specs.Prelude.{ℕ, ◌+◌, ◌-◌, ◌^◌, Bool, ◌&&◌, nat_eq, nat_le, if◌then◌else◌, bit_and, bit_or}
 
 -- the set of one signal
 abbrev pub only : ℕ → ℕ

@@ -1,8 +1,7 @@
 -- The state of the POSIX machine.
-use Rattle.std.specs.Prelude.{◌≡◌, ℕ, Bool, true, false, nat_eq, if◌then◌else◌, List, [], ◌∷◌, Option, Some, None, replicate}
+use Rattle.std.specs.Prelude.{ℕ, Bool, true, false, nat_eq, if◌then◌else◌, List, [], ◌∷◌, Option, Some, None, replicate}
 use Rattle.w32_base.specs.declared.instr.Action.{Action}
 use Rattle.w32_base.specs.declared.instr.Action.TheVariants.{Default}
-use Rattle.w32_base.specs.declared.instr.Instr.{Instr}
 use Rattle.vm_spec.specs.Image.{Image}
 
 -- whether a process runs, was stopped by a signal, or is a zombie with a status

@@ -1,6 +1,5 @@
 -- The steps of the POSIX machine: one case an event.
-use Rattle.std.specs.Prelude.{◌≡◌, ℕ, ◌+◌, ◌-◌, ◌%◌, ◌^◌, ℤ, pos, negsuc, Bool, true, false, ◌||◌, ◌&&◌, not, nat_eq, nat_lt, nat_le, if◌then◌else◌, List, [], ◌∷◌, ◌++◌, Option, Some, None, is_some, unwrap_or, slice_get, bit_and, bit_or}
-use Rattle.std.specs.Int.{w32, cast_unsigned}
+use Rattle.std.specs.Prelude.{ℕ, ◌+◌, ℤ, pos, negsuc, Bool, true, false, ◌||◌, ◌&&◌, not, nat_eq, nat_le, if◌then◌else◌, List, [], Option, Some, None, is_some, unwrap_or, slice_get, bit_and, bit_or}
 use Rattle.w32_base.specs.declared.event.Answer.{Answer}
 use Rattle.w32_base.specs.declared.event.Answer.TheVariants.{Zero, Error}
 use Rattle.w32_base.specs.declared.event.Errno.TheVariants as errno
@@ -10,11 +9,10 @@ use Rattle.w32_base.specs.declared.event.Event.{Event}
 use Rattle.w32_base.specs.declared.event.Event.TheVariants as event
 use Rattle.w32_base.specs.declared.instr.Instr.{Instr}
 use Rattle.w32_base.specs.declared.instr.Instr.TheVariants as instr
-use Rattle.w32_base.specs.declared.instr.Operand.{Operand}
 use Rattle.vm_spec.specs.Image.{Image, value_of, program_of, with_result}
-use Rattle.vm_spec.specs.Step.{Upcoming, LocalInstruction, CallInstruction, ImageFault, upcoming, low_byte}
+use Rattle.vm_spec.specs.Step.{Upcoming, CallInstruction, upcoming, low_byte}
 use Rattle.posix_spec.specs.Signals.{only, outside, generate, lost_by, kill_signal, continue_signal}
-use Rattle.posix_spec.specs.State.{Life, Running, Stopped, Zombie, CallInProgress, NoCall, WaitCall, ForGroup, Record, Numbered, PosixState, record_of, change_record, without_record, map_records}
+use Rattle.posix_spec.specs.State.{Life, Running, Stopped, Zombie, CallInProgress, NoCall, ForGroup, Record, Numbered, PosixState, record_of, change_record, without_record, map_records}
 
 -- the signals that may act on a process: the pending ones outside the mask, in a stopped process KILL alone
 abbrev pub open_by_life : Life → ℕ → ℕ → ℕ

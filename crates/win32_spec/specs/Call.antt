@@ -1,11 +1,11 @@
 -- What a Win32 call answers and what it changes.
-use Rattle.std.specs.Prelude.{◌≡◌, ℕ, ◌+◌, ◌-◌, ◌*◌, ◌/◌, ◌%◌, Bool, true, false, ◌&&◌, ◌||◌, not, nat_eq, nat_lt, if◌then◌else◌, List, [], ◌∷◌, ◌++◌, Option, Some, None, is_none, slice_index, MatchBool}
+use Rattle.std.specs.Prelude.{◌≡◌, ℕ, ◌+◌, Bool, true, false, ◌||◌, if◌then◌else◌, List, [], ◌∷◌, Option, Some, None, is_none, slice_index, MatchBool}
 use Rattle.w32_base.specs.declared.call.Call.{Call}
 use Rattle.w32_base.specs.declared.call.Call.TheVariants as call
 use Rattle.w32_base.specs.declared.call.Reply.{Reply}
 use Rattle.w32_base.specs.declared.call.Reply.TheVariants as reply
 use Rattle.win32_spec.specs.Handles.{Handle, handle_of}
-use Rattle.win32_spec.specs.Objects.{EventState, event_taken, Ownership, Owned, is_abandoned, load_reply, exchanged}
+use Rattle.win32_spec.specs.Objects.{event_taken, Owned, is_abandoned, load_reply, exchanged}
 use Rattle.win32_spec.specs.State.{Object, Section, Event, Mutex, Pipe, ProcessObject, TerminalObject, NumberedObject, Life, Alive, Ended, Process, Win32State}
 use Rattle.win32_spec.specs.Lookup.{process_of, object_number, object_of, change_object, with_end}
 use Rattle.win32_spec.specs.Ready.{is_handle_signalled}
@@ -116,7 +116,7 @@ CallStep s w t (call.ExitCode h) r new = (r ≡ exit_code_reply s (process_named
 CallStep s w t (call.ExitSelf code) r new = (r ≡ reply.Done) × (new ≡ with_end s w code)
 CallStep s w t (call.WaitAny list) r new =
     MatchBool (has_absent (caller_handles s w) list) ((r ≡ reply.BadHandle) × (new ≡ s))
-        (WaitStep s w t list (first_signalled s w t (caller_handles s w) list 0) r new)
+    (WaitStep s w t list (first_signalled s w t (caller_handles s w) list 0) r new)
 CallStep s w t _ r new = ⊥
 
 -- the calls that have a step

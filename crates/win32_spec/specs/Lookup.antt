@@ -1,9 +1,9 @@
 -- Finding and changing processes, threads and objects in a state.
-use Rattle.std.specs.Prelude.{◌≡◌, ℕ, ◌+◌, ◌*◌, ◌/◌, ◌%◌, Bool, true, false, ◌&&◌, ◌||◌, not, nat_eq, nat_lt, if◌then◌else◌, List, [], ◌∷◌, ◌++◌, map, Option, Some, None, replicate}
+use Rattle.std.specs.Prelude.{ℕ, ◌*◌, ◌/◌, Bool, true, false, ◌&&◌, ◌||◌, nat_eq, if◌then◌else◌, List, [], ◌∷◌, Option, Some, None}
 use Rattle.w32_base.specs.declared.call.Call.{Call}
 use Rattle.w32_base.specs.declared.own.Own.{Own}
 use Rattle.win32_spec.specs.Handles.{Handle}
-use Rattle.win32_spec.specs.Objects.{Ownership, left_by}
+use Rattle.win32_spec.specs.Objects.{left_by}
 use Rattle.win32_spec.specs.State.{Object, Section, Event, Mutex, Pipe, ProcessObject, TerminalObject, NumberedObject, Thread, Life, Alive, Ended, Process, Win32State}
 
 abbrev pub is_alive : Life → Bool

@@ -1,10 +1,10 @@
 -- The state in which a run begins.
-use Rattle.std.specs.Prelude.{◌≡◌, ◌≢◌, ℕ, ◌+◌, ◌*◌, ◌^◌, List, [], ◌∷◌, ◌++◌, Option, Some, None, replicate, slice_set}
+use Rattle.std.specs.Prelude.{◌≡◌, ◌≢◌, ℕ, ◌+◌, ◌*◌, ◌^◌, List, [], ◌∷◌, Some, None, replicate}
 use Rattle.w32_base.specs.declared.call.Call.{Call}
 use Rattle.w32_base.specs.declared.call.Call.TheVariants as call
 use Rattle.w32_base.specs.declared.own.Own.{Own}
 use Rattle.w32_base.specs.declared.setup.Program.{Program}
-use Rattle.win32_spec.specs.State.{Object, Section, ProcessObject, NumberedObject, Thread, Alive, Process, Win32State}
+use Rattle.win32_spec.specs.State.{Section, ProcessObject, Alive, Process, Win32State}
 use Rattle.win32_spec.specs.Lookup.{no_memory}
 
 -- row 1's main word: Running (kind 2, from bit 50 on), image 2 (from bit 31 on)

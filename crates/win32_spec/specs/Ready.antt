@@ -1,10 +1,10 @@
 -- When a thread is ready, and which one comes next.
-use Rattle.std.specs.Prelude.{◌≡◌, ℕ, ◌+◌, ◌-◌, ◌*◌, ◌/◌, ◌%◌, ◌≤◌, Bool, true, false, ◌&&◌, ◌||◌, not, nat_eq, nat_lt, if◌then◌else◌, List, [], ◌∷◌, ◌++◌, Option, Some, None}
+use Rattle.std.specs.Prelude.{◌≡◌, ℕ, ◌+◌, ◌-◌, ◌*◌, ◌%◌, ◌≤◌, Bool, true, false, ◌&&◌, ◌||◌, not, nat_eq, if◌then◌else◌, List, [], ◌∷◌, Option, Some, None}
 use Rattle.w32_base.specs.declared.call.Call.{Call}
 use Rattle.w32_base.specs.declared.call.Call.TheVariants as call
 use Rattle.win32_spec.specs.Handles.{Handle, handle_of, holders_of}
-use Rattle.win32_spec.specs.Objects.{EventState, is_free_for, is_empty}
-use Rattle.win32_spec.specs.State.{Terminal, Object, Section, Event, Mutex, Pipe, ProcessObject, TerminalObject, NumberedObject, Thread, Process, Win32State}
+use Rattle.win32_spec.specs.Objects.{is_free_for, is_empty}
+use Rattle.win32_spec.specs.State.{Object, Section, Event, Mutex, Pipe, ProcessObject, TerminalObject, Thread, Process, Win32State}
 use Rattle.win32_spec.specs.Lookup.{is_alive, process_of, process_in, thread_in, object_number, object_of}
 
 -- whether process w has ended; a number that no live process has is that of one that has
