@@ -2,4 +2,7 @@
 #![tactic(auto)]
 
 mod layer;
+mod recorder;
 mod rows;
+mod run;
+mod world;

@@ -7,5 +7,39 @@ pub mod machine;
 mod seat;
 mod words;
 
-pub use machine::{Machine, Turned};
+pub use machine::{DrivenTurn, Machine, Turned};
 pub use words::BadIndex;
+
+#[cfg(test)]
+mod tests {
+    use crate::{Machine, Turned};
+    use std::test::Fail;
+    use w32_base::{Call, Code, HandleList, HandleNo, Instr, Name, Operand, Program, Reply, Slot, ThreadNo, WinNo};
+
+    #[test]
+    fn two_processes_run_and_end(rt: HostRuntime) -> Result<(), Fail> {
+        let program = Program {
+            name: Name::try_new(b"main").ok_or("name")?,
+            heap: 0,
+            stack: 64,
+            code: Code::from_vec(vec![in rt.alloc(); Instr::Exit(Operand::Number(0))]?),
+        };
+        let mut machine = Machine::open(rt.alloc(), &program)?;
+        let (host, layer) = (Slot::new(0), Slot::new(1));
+        let (starter, main) = (ThreadNo::new(1), ThreadNo::new(0));
+        assert_eq!(rt; machine.in_slot(host), Some(WinNo::new(1)));
+        assert_eq!(rt; machine.in_slot(layer), Some(WinNo::new(2)));
+        assert!(rt; machine.own(Slot::new(2)).is_none());
+        let next = machine.next_ready((Slot::new(64), ThreadNo::new(2))).ok_or("ready")?;
+        assert_eq!(rt; next.0, host);
+        assert_eq!(rt; machine.turn(host, starter), Turned::Done(Reply::Word(1)));
+        assert_eq!(rt; machine.turn(layer, main), Turned::Done(Reply::Word(1)));
+        assert_eq!(rt; machine.turn(layer, ThreadNo::new(1)), Turned::Idle);
+        let ended = machine.end(layer);
+        assert_eq!(rt; ended, Some(WinNo::new(2)));
+        assert_eq!(rt; machine.in_slot(layer), None);
+        assert_eq!(rt; machine.turn(host, starter), Turned::Done(Reply::Word(1)));
+        assert!(rt; !machine.quiet());
+        Ok(())
+    }
+}
