@@ -1,19 +1,21 @@
 -- The processes that have lines in view `calls`.
-use Rattle.std.specs.Prelude.{ℕ, List, Option, Some, None, if◌then◌else◌}
+use Rattle.std.specs.Prelude.{◌≡◌, ◌≢◌, ℕ, ◌<◌, ◌≤◌, List, [], Option, Some, None, if◌then◌else◌}
 use Rattle.w32_base.specs.declared.event.Event.{Event}
 use Rattle.w32_base.specs.declared.entry.Entry.{Entry}
-use Rattle.std.specs.List.{filter_map}
-use Rattle.layer_spec.specs.LogText.{is_call_event, acting}
+use Rattle.layer_spec.specs.LogText.{is_call_event, acting, lines_by}
 
 -- the process that acts in an event with a line in the view
-abbrev pub actor : Event → Option ℕ
-actor e = if is_call_event e then Some (acting e) else None
+abbrev pub actor : Option Event → Option ℕ
+actor None = None
+actor (Some e) = if is_call_event e then Some (acting e) else None
 
--- the same of an entry
-abbrev pub entry_actor : Option Event → Option ℕ
-entry_actor None = None
-entry_actor (Some e) = actor e
+-- no process from `least` up to below `next` has a line
+abbrev pub NoLinesFrom : ℕ → ℕ → List Entry → Type 0
+NoLinesFrom least next entries = (p : ℕ) → least ≤ p → p < next → lines_by p entries ≡ []
 
--- those of a journal, in its order
-unfoldable pub actors : List Entry → List ℕ
-actors entries = filter_map (λ (e : Entry). entry_actor e.event) entries
+-- the least process from `least` up that has a line, or 4002 where none has
+pub record IsNext (least next : ℕ) (entries : List Entry) : Type 0 where
+  pub from : least ≤ next
+  pub range : next ≤ 4002
+  pub first : NoLinesFrom least next entries
+  pub has_lines : next < 4002 → lines_by next entries ≢ []

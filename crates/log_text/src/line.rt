@@ -3,7 +3,6 @@
 ghost use Rattle.std.specs.Prelude.{◌≡◌, ◌+◌, ◌<◌, ◌≤◌, ◌++◌, length, IsTrue};
 ghost use Rattle.std.specs.Fmt.{decimal};
 ghost use Rattle.layer_spec.specs.LogText.{errno_text, answer_text, event_text, end_text, is_call_event, line};
-ghost use Rattle.log_text.specs.Actors.{actor};
 
 use crate::text::{Line, push_number, push_text};
 use w32_base::entry::End;
@@ -11,19 +10,7 @@ use w32_base::event::{Answer, Death, Errno, Event, Field};
 use w32_base::lists::ShortBytes;
 use w32_base::numbers::{Acting, Number};
 
-/// The process that acts in an event that has a line in view `calls`, or none where the event has none.
-pub fn actor_of(event: &Event) -> Option<u16>
-    ensures { result ≡ actor event.now }
-{
-    match event {
-        Event::Get(acting, Field::Pid, _)
-        | Event::Kill(acting, ..)
-        | Event::Die(acting, _, Death::Exit)
-        | Event::Host(acting, _) => Some(acting.get()),
-        _ => None,
-    }
-}
-
+// The name of an error.
 fn errno_name(errno: Errno) -> &'static [u8]
     ensures name { result.now ≡ errno_text errno }
     ensures size { length result.now ≤ 7 }
@@ -42,6 +29,7 @@ fn errno_name(errno: Errno) -> &'static [u8]
     }
 }
 
+// `0` or the name of an error.
 fn answer_name(answer: Answer) -> &'static [u8]
     ensures name { result.now ≡ answer_text answer }
     ensures size { length result.now ≤ 7 }
@@ -64,6 +52,7 @@ fn begun(word: &[u8], acting: Acting) -> Line
     line
 }
 
+// `get P pid V`.
 fn get_text(acting: Acting, value: Number) -> Line
     ensures text { result ≡ event_text (Event.Get acting Field.Pid value) }
     ensures size { length result < 128 }
@@ -74,6 +63,7 @@ fn get_text(acting: Acting, value: Number) -> Line
     line
 }
 
+// `kill P Q S REPLY`.
 fn kill_text(acting: Acting, target: Number, signal: Number, answer: Answer) -> Line
     ensures text { result ≡ event_text (Event.Kill acting target signal answer) }
     ensures size { length result < 128 }
@@ -88,6 +78,7 @@ fn kill_text(acting: Acting, target: Number, signal: Number, answer: Answer) -> 
     line
 }
 
+// `die P V exit`.
 fn die_text(acting: Acting, status: Number) -> Line
     ensures text { result ≡ event_text (Event.Die acting status Death.Exit) }
     ensures size { length result < 128 }
@@ -99,6 +90,7 @@ fn die_text(acting: Acting, status: Number) -> Line
     line
 }
 
+// `host P N`.
 fn host_text(acting: Acting, code: Number) -> Line
     ensures text { result ≡ event_text (Event.Host acting code) }
     ensures size { length result < 128 }
