@@ -44,19 +44,17 @@ rest n zero entries =
     ([], ap (λ (m : ℕ). lines_below m entries) e ∙ sym (append-nil (lines_below n entries)))
 rest n (suc k) entries =
     let e : n + suc k ≡ suc (n + k) = omega arith in
-    let before : (zs : List ℕ) × (lines_below (n + k) entries ≡ lines_below n entries ++ zs) = rest n k entries in
-    (
+    let before : (zs : List ℕ) × (lines_below (n + k) entries ≡ lines_below n entries ++ zs) = rest n k entries in (
       before.0 ++ lines_by (n + k) entries,
       ap (λ (m : ℕ). lines_below m entries) e ∙ ap (λ (l : List ℕ). l ++ lines_by (n + k) entries) before.1
-      ∙ append_assoc (lines_below n entries) before.0 (lines_by (n + k) entries),
+          ∙ append_assoc (lines_below n entries) before.0 (lines_by (n + k) entries),
     )
 
 pub lines_below-at : (n m : ℕ) (entries : List Entry) → n < m → (zs : List ℕ) × (lines_below m entries ≡ lines_below n entries ++ (lines_by n entries ++ zs))
 lines_below-at n m entries h =
     let e : m ≡ n + 1 + (m - (n + 1)) = omega arith in
-    let after : (zs : List ℕ) × (lines_below (n + 1 + (m - (n + 1))) entries ≡ lines_below (n + 1) entries ++ zs) = rest (n + 1) (m - (n + 1)) entries in
-    (
+    let after : (zs : List ℕ) × (lines_below (n + 1 + (m - (n + 1))) entries ≡ lines_below (n + 1) entries ++ zs) = rest (n + 1) (m - (n + 1)) entries in (
       after.0,
       ap (λ (j : ℕ). lines_below j entries) e ∙ after.1 ∙ ap (λ (l : List ℕ). l ++ after.0) (sym (lines_below-more n entries))
-      ∙ append_assoc (lines_below n entries) (lines_by n entries) after.0,
+          ∙ append_assoc (lines_below n entries) (lines_by n entries) after.0,
     )

@@ -81,6 +81,6 @@ IsNext-nearer least next number xs ys e is so_far acts low_end nearer = record {
   from = low_end;
   range = omega (arith, so_far.range);
   first = λ p low high. ap (lines_by p) is ∙ lines_by-more p xs e ∙ ap (λ (l : List ℕ). l ++ line_by p e.event) (so_far.first p low (omega arith))
-    ∙ no_line p e.event (λ at. let same : number ≡ p = cc in omega arith);
+      ∙ no_line p e.event (λ at. let same : number ≡ p = cc in omega arith);
   has_lines = λ less none. append_last_not_nil (lines_by number xs) (line_by number e.event) (has_line number e.event acts) (sym (ap (lines_by number) is ∙ lines_by-more number xs e) ∙ none);
 }

@@ -15,11 +15,11 @@ take_past (x ∷ xs) ys n =
 -- where a part of a piece of the whole went out, behind what stands before it, a part of the whole did
 pub part_of : (a b c : Option (List ℕ)) (xs ys zs whole : List ℕ) → whole ≡ xs ++ (ys ++ zs) → Appends a b xs → AppendsPart b c ys → AppendsPart a c whole
 part_of a b c xs ys zs whole is before part = (
-    length xs + part.0,
-    omega (arith, part.1, ap length is, length-append xs (ys ++ zs), length-append ys zs),
-    subst (λ (l : List ℕ). Appends a c l)
-    (sym (ap (take (length xs + part.0)) is ∙ take_past xs (ys ++ zs) part.0 ∙ ap (λ (l : List ℕ). xs ++ l) (take-append-le part.0 ys zs (omega (arith, part.1)))))
-    (Appends-trans a b c xs (take part.0 ys) before part.2),
+  length xs + part.0,
+  omega (arith, part.1, ap length is, length-append xs (ys ++ zs), length-append ys zs),
+  subst (λ (l : List ℕ). Appends a c l)
+      (sym (ap (take (length xs + part.0)) is ∙ take_past xs (ys ++ zs) part.0 ∙ ap (λ (l : List ℕ). xs ++ l) (take-append-le part.0 ys zs (omega (arith, part.1)))))
+      (Appends-trans a b c xs (take part.0 ys) before part.2),
 )
 
 pub OnErr-from : {T E : Type 0} {P : Type 0} (r : Result T E) → P → OnErr r P

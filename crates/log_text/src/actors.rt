@@ -31,10 +31,8 @@ pub fn actor_of(event: &Option<Event>) -> Option<u16>
 /// The line of an entry in which a process acts, with its end, or none where the entry gives the process no
 /// line.
 pub fn line_of(entry: &Entry, number: u16) -> Option<Line>
-    ensures {
-        let line = line_by number entry.now.event in
-        MatchOption result (line ≡ []) (λ l. l ≡ line)
-    }
+    ensures { let line = line_by number entry.now.event in
+        MatchOption result (line ≡ []) (λ l. l ≡ line) }
 {
     match &entry.event {
         Some(event) if actor_of(&entry.event) == Some(number) => Some(event_line(event)),

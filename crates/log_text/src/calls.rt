@@ -26,11 +26,7 @@ fn write_entry<K: Sink>(entry: &Entry, number: u16, sink: &mut K) -> Result<(), 
 }
 
 // Writes the lines of a process, in the journal's order.
-fn write_lines_of<K: Sink>(
-    entries: &[Entry],
-    number: u16,
-    sink: &mut K,
-) -> Result<(), WriteFailed>
+fn write_lines_of<K: Sink>(entries: &[Entry], number: u16, sink: &mut K) -> Result<(), WriteFailed>
     ensures whole { OnOk result (Appends (K.held sink.old) (K.held sink.new) (lines_by number entries.now)) }
     ensures failed { OnErr result (Rose (K.faults sink.old) (K.faults sink.new)) }
     ensures part { OnErr result (AppendsPart (K.held sink.old) (K.held sink.new) (lines_by number entries.now)) }

@@ -7,3 +7,6 @@ mod line;
 mod text;
 
 pub use calls::write_calls;
+
+#[cfg(test)]
+mod tests;

@@ -108,7 +108,9 @@ pub fn event_line(event: &Event) -> Line
 {
     let mut line = match event {
         Event::Get(acting, Field::Pid, value) => get_text(*acting, *value),
-        Event::Kill(acting, target, signal, answer) => kill_text(*acting, *target, *signal, *answer),
+        Event::Kill(acting, target, signal, answer) => kill_text(
+            *acting, *target, *signal, *answer,
+        ),
         Event::Die(acting, status, Death::Exit) => die_text(*acting, *status),
         Event::Host(acting, code) => host_text(*acting, *code),
         _ => unreachable!(),

@@ -11,8 +11,8 @@ unfolding lines_below
 loop-number-init g c = record {
   range = c.next_number-number.ensures.range;
   bytes = subst (λ (l : List ℕ). Appends (g.K.Sink.held c.args.sink.now) (g.K.Sink.held c.args.sink.now) l)
-    (sym (lines_below-skip 0 c.next_number-number.result c.args.entries.now c.next_number-number.ensures.from c.next_number-number.ensures.first))
-    (Appends-nil _);
+      (sym (lines_below-skip 0 c.next_number-number.result c.args.entries.now c.next_number-number.ensures.from c.next_number-number.ensures.first))
+      (Appends-nil _);
   faults = search rules;
 }
 
@@ -26,9 +26,9 @@ pub loop-number-preserved : goal.loop-number-preserved
 loop-number-preserved g c = record {
   range = c.next_number-number-in-loop-number.ensures.range;
   bytes = subst (λ (l : List ℕ). Appends (g.K.Sink.held c.args.sink.now) (g.K.Sink.held c.write_lines_of.new.sink) l)
-    (lines_below-more c.loop-number.number c.args.entries.now
+      (lines_below-more c.loop-number.number c.args.entries.now
       ∙ sym (lines_below-skip (c.loop-number.number + 1) c.next_number-number-in-loop-number.result c.args.entries.now
-        c.next_number-number-in-loop-number.ensures.from c.next_number-number-in-loop-number.ensures.first))
-    (Appends-trans _ _ _ _ _ c.loop-number.invariant.bytes c.in_ok-write_lines_of.ensures.whole);
+      c.next_number-number-in-loop-number.ensures.from c.next_number-number-in-loop-number.ensures.first))
+      (Appends-trans _ _ _ _ _ c.loop-number.invariant.bytes c.in_ok-write_lines_of.ensures.whole);
   faults = search rules;
 }

@@ -22,7 +22,7 @@ returns-in_err-write_entry-clause-part g c =
 pub loop-entry-preserved : goal.loop-entry-preserved
 loop-entry-preserved g c = record {
   bytes = subst (λ (l : List ℕ). Appends (g.K.Sink.held c.args.sink.now) (g.K.Sink.held c.write_entry.new.sink) l)
-    (lines_by-next c.args.number c.args.entries.now c.loop-entry.entry-index c.entry-item.result c.loop-entry-test.true c.entry-item.is)
-    (Appends-trans _ _ _ _ _ c.loop-entry.invariant.bytes c.in_ok-write_entry.ensures.whole);
+      (lines_by-next c.args.number c.args.entries.now c.loop-entry.entry-index c.entry-item.result c.loop-entry-test.true c.entry-item.is)
+      (Appends-trans _ _ _ _ _ c.loop-entry.invariant.bytes c.in_ok-write_entry.ensures.whole);
   faults = search rules;
 }
