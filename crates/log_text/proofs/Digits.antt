@@ -1,7 +1,7 @@
 -- The digits of a number, and how many there are.
-use Rattle.std.proofs.Common.{◌≡◌, ℕ, ◌+◌, ◌/◌, ◌%◌, ◌<◌, ◌≤◌, ◌^◌, List, [], ◌∷◌, ◌++◌, length, sym, ◌∙◌, ap, arith, append_assoc, length-append, ℤ, pos, negsuc}
-use Rattle.std.specs.Fmt.{decimal, signed_decimal}
-use Rattle.std.proofs.lemmas.Fmt.{decimal_digit, decimal_step, decimal_nonempty, length-decimal-le, length_signed_le}
+use Rattle.std.proofs.Common.{◌≡◌, ℕ, ◌+◌, ◌/◌, ◌%◌, ◌<◌, ◌≤◌, ◌^◌, List, [], ◌∷◌, ◌++◌, length, sym, ◌∙◌, ap, arith, append_assoc, length-append}
+use Rattle.std.specs.Fmt.{decimal}
+use Rattle.std.proofs.lemmas.Fmt.{decimal_digit, decimal_step, length-decimal-le}
 
 -- a number of one digit
 pub one_digit : (n : ℕ) (xs : List ℕ) → n < 10 → xs ++ (48 + n) ∷ [] ≡ xs ++ decimal n
@@ -20,10 +20,6 @@ length-last_digit n h fits =
 -- a number of one digit has one
 pub length-one_digit : (n : ℕ) → n < 10 → length (decimal n) ≡ 1
 length-one_digit n h = ap length (decimal_digit n h)
-
--- a number has a digit at least
-pub has_digit : (n : ℕ) → n < 2 ^ 64 → 1 ≤ length (decimal n)
-has_digit n fits = omega (arith, decimal_nonempty n fits)
 
 -- the digits of a number of 63 bits
 pub few_digits : (n : ℕ) → n ≤ 2 ^ 63 → length (decimal n) ≤ 19

@@ -1,5 +1,5 @@
 -- The lines of the processes, group after group.
-use Rattle.std.proofs.Common.{◌≡◌, ℕ, zero, suc, ◌+◌, ◌-◌, ◌<◌, ◌≤◌, List, [], ◌∷◌, ◌++◌, length, take, drop, get_or, sym, ◌∙◌, ap, refl, arith, append_assoc, append-nil, take-append-drop, add-one, drop-cons}
+use Rattle.std.proofs.Common.{◌≡◌, ℕ, zero, suc, ◌+◌, ◌-◌, ◌<◌, ◌≤◌, List, [], ◌++◌, length, take, drop, get_or, sym, ◌∙◌, ap, refl, arith, append_assoc, append-nil, take-append-drop, add-one}
 use Rattle.w32_base.specs.declared.entry.Entry.{Entry}
 use Rattle.layer_spec.specs.LogText.{line_by, lines_by, lines_below}
 use Rattle.log_text.specs.Actors.{NoLinesFrom}

@@ -1,13 +1,13 @@
 -- The lines of a process, as entries are added.
-use Rattle.std.proofs.Common.{◌≡◌, ◌≢◌, ◌⊎◌, inl, inr, ℕ, ◌+◌, ◌<◌, ◌≤◌, List, [], ◌∷◌, ◌++◌, length, take, get_or, Option, Some, None, Bool, true, false, nat_eq, sym, ◌∙◌, ap, subst, refl, arith, rules, append-nil}
-use Rattle.std.specs.Prelude.{flat_map, if◌then◌else◌}
+use Rattle.std.proofs.Common.{◌≡◌, ◌≢◌, ℕ, ◌+◌, ◌<◌, ◌≤◌, List, [], ◌∷◌, ◌++◌, length, take, get_or, Option, Some, None, Bool, true, false, nat_eq, sym, ◌∙◌, ap, refl, arith, append-nil}
+use Rattle.std.specs.Prelude.{if◌then◌else◌}
 use Rattle.std.proofs.lemmas.Grind.{flat_map-append}
 use Rattle.std.proofs.lemmas.List.{take_more}
 use Rattle.std.proofs.lemmas.Bool.{eqb-true, eq-eqb}
 use Rattle.w32_base.specs.declared.event.Event.{Event}
 use Rattle.w32_base.specs.declared.entry.Entry.{Entry}
 use Rattle.layer_spec.specs.LogText.{is_call_event, acting, event_text, line, line_by, lines_by}
-use Rattle.log_text.specs.Actors.{actor, NoLinesFrom, IsNext}
+use Rattle.log_text.specs.Actors.{actor, IsNext}
 
 -- one entry more
 pub entry_more : (entries : List Entry) (i : ℕ) (e : Entry) → i < length entries → e ≡ get_or entries i e → take (i + 1) entries ≡ take i entries ++ e ∷ []

@@ -1,4 +1,4 @@
-use Rattle.std.proofs.Common.{◌≡◌, ◌++◌, [], ◌∷◌, ◌+◌, take, sym, ◌∙◌, arith, rules}
+use Rattle.std.proofs.Common.{◌≡◌, ◌++◌, [], ◌∷◌, ◌+◌, take, sym, ◌∙◌, arith}
 use Rattle.log_text.proofs.Lines.{entry_more, IsNext-none, IsNext-stays, IsNext-nearer}
 use Rattle.log_text.proofs.actors.next_number.Goals as goal
 use Rattle.log_text.proofs.actors.next_number.Goals.{in-Some+then-least-number+then-number-next, in-Some+else-least-number, else-least-number-via-then-least-number+else-number-next, else-least-number-via-else-least-number, in_default}

@@ -1,4 +1,4 @@
-use Rattle.std.proofs.Common.{◌≡◌, take}
+use Rattle.std.proofs.Common.{take}
 use Rattle.log_text.specs.Actors.{IsNext}
 use Rattle.log_text.proofs.actors.next_number.Given as goal
 

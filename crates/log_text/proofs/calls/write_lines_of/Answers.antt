@@ -1,4 +1,4 @@
-use Rattle.std.proofs.Common.{arith, rules, subst, List, ℕ}
+use Rattle.std.proofs.Common.{rules, subst, List, ℕ}
 use Rattle.std.proofs.KnownBytes.{Appends-nil, Appends-trans}
 use Rattle.std.specs.Io.KnownBytes.{Appends}
 use Rattle.layer_spec.specs.LogText.{lines_by}

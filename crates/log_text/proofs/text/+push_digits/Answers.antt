@@ -1,6 +1,6 @@
 use Rattle.std.proofs.Common.{ap, arith, length-append, ◌/◌, length, ◌∙◌}
 use Rattle.std.specs.Fmt.{decimal}
-use Rattle.log_text.proofs.Digits.{one_digit, last_digit, length-last_digit, length-one_digit, has_digit}
+use Rattle.log_text.proofs.Digits.{one_digit, last_digit, length-last_digit, length-one_digit}
 use Rattle.log_text.proofs.text.+push_digits.Goals as goal
 
 pub push_digits-requires : goal.push_digits-requires

@@ -1,5 +1,4 @@
 use Rattle.std.proofs.Common.{ℕ, ap, arith, length, length-append}
-use Rattle.std.specs.Fmt.{decimal}
 use Rattle.log_text.proofs.Digits.{few_digits}
 use Rattle.log_text.proofs.text.push_number.Goals as goal
 use Rattle.log_text.proofs.text.push_number.Goals.{then-number-lt0, else-number-lt0}
