@@ -1,8 +1,8 @@
 -- A line that is read is an instruction's, and an instruction's line is read.
-use Rattle.std.proofs.Common.{◌≡◌, ℕ, zero, suc, ◌+◌, ◌<◌, ◌≤◌, Bool, true, false, ◌&&◌, cond, nat_eq, nat_le, List, [], ◌∷◌, ◌++◌, length, Option, Some, None, refl, sym, ap, subst, ◌∙◌, append_assoc, arith, inl, inr, eqb-true}
+use Rattle.std.proofs.Common.{◌≡◌, ℕ, ◌<◌, ◌≤◌, true, ◌&&◌, cond, nat_eq, nat_le, List, [], ◌∷◌, ◌++◌, Option, Some, None, refl, sym, ap, subst, ◌∙◌, append_assoc, arith, inl, inr, eqb-true}
 use Rattle.std.specs.Prelude.{pos, codes}
 use Rattle.std.specs.Fmt.{decimal}
-use Rattle.std.proofs.lemmas.Bool.{and_parts, and_from, leb-true, le-leb}
+use Rattle.std.proofs.lemmas.Bool.{and_parts, and_from, leb-true}
 use Rattle.std.proofs.lemmas.Option.{same_Some}
 use Rattle.w32_base.specs.declared.instr.Instr.{Instr}
 use Rattle.w32_base.specs.declared.instr.Instr.TheVariants.{GetPid, Kill, Exit}
@@ -85,7 +85,7 @@ instr_spelled (b ∷ bs) x e =
       | inr h ↦ elim (chosen (nat_eq b 107) (kill_at bytes) others (Some x) h.1) [
         | inl k ↦ kill_spelled bytes x k.1
         | inr k ↦ exit_spelled bytes x (guard_some (nat_eq b 101) (exit_at bytes) x k.1).1
-        ]
+      ]
     ]
 
 -- ---- and back
@@ -108,7 +108,7 @@ instr_again (Kill (Number (pos n)) (Number (pos s))) rest h =
     let few : n ≤ 4001 = leb-true n 4001 q.0 in
     let none : s ≡ 0 = eqb-true s 0 q.1 in
     let read : kill_at (line (Kill (Number (pos n)) (Number (pos 0))) ++ rest) ≡ Some (Kill (Number (pos n)) (Number (pos 0)), rest) =
-        ap kill_at (kill_line n rest) ∙ kill_again n rest (and_from (nat_le 1 n) (nat_le n 4001) p.0 q.0) (omega arith) in
+    ap kill_at (kill_line n rest) ∙ kill_again n rest (and_from (nat_le 1 n) (nat_le n 4001) p.0 q.0) (omega arith) in
     subst (λ (k : ℕ). instr_at (line (Kill (Number (pos n)) (Number (pos k))) ++ rest) ≡ Some (Kill (Number (pos n)) (Number (pos k)), rest)) (sym none) read
 instr_again (Exit (Number (pos n))) rest h =
     let few : n ≤ 255 = leb-true n 255 h in

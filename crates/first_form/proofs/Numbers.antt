@@ -1,5 +1,5 @@
 -- A number that is read is spelled so, and one that is spelled so is read.
-use Rattle.std.proofs.Common.{◌≡◌, ℕ, zero, suc, ◌+◌, ◌-◌, ◌*◌, ◌/◌, ◌%◌, ◌<◌, ◌≤◌, ◌^◌, Bool, true, false, ◌&&◌, cond, nat_eq, nat_le, nat_lt, List, [], ◌∷◌, ◌++◌, Option, Some, None, refl, sym, ap, subst, ◌∙◌, append_assoc, arith, inl, inr, ◌⊎◌, eqb-true, ltb-true}
+use Rattle.std.proofs.Common.{◌≡◌, ℕ, zero, suc, ◌+◌, ◌-◌, ◌*◌, ◌/◌, ◌%◌, ◌<◌, ◌≤◌, Bool, true, false, cond, nat_eq, nat_le, nat_lt, List, [], ◌∷◌, ◌++◌, Some, None, refl, sym, ap, subst, ◌∙◌, append_assoc, arith, inl, inr, ◌⊎◌, eqb-true, ltb-true}
 use Rattle.std.specs.Fmt.{decimal}
 use Rattle.std.proofs.lemmas.Bool.{and_parts, and_from, leb-true, le-leb, lt-ltb, eqb-false}
 use Rattle.std.proofs.lemmas.Bool.Decides.{nat_tests}
@@ -40,11 +40,11 @@ digits_are n [] x p lt e = subst (λ (y : ℕ × List ℕ). Spells (decimal n ++
 digits_are n (b ∷ bs) x p lt e =
     elim (chosen (is_digit b) (cond (nat_lt n 100000) (digits_from (n * 10 + (b - 48)) bs) None) (Some (n, b ∷ bs)) (Some x) e) [
       | inl h ↦
-        let g = guard_some (nat_lt n 100000) (digits_from (n * 10 + (b - 48)) bs) x h.1 in
-        let few : n < 100000 = ltb-true _ _ g.0 in
-        let within : (48 ≤ b) × (b ≤ 57) = digit_within b h.0 in
-        let r = digits_are (n * 10 + (b - 48)) bs x (omega arith) (omega arith) g.1 in
-        record { parts = sym (append_assoc (decimal n) (b ∷ []) bs) ∙ ap (λ (t : List ℕ). t ++ bs) (sym (step_back n b p few within)) ∙ r.parts; below = r.below }
+          let g = guard_some (nat_lt n 100000) (digits_from (n * 10 + (b - 48)) bs) x h.1 in
+          let few : n < 100000 = ltb-true _ _ g.0 in
+          let within : (48 ≤ b) × (b ≤ 57) = digit_within b h.0 in
+          let r = digits_are (n * 10 + (b - 48)) bs x (omega arith) (omega arith) g.1 in
+          record { parts = sym (append_assoc (decimal n) (b ∷ []) bs) ∙ ap (λ (t : List ℕ). t ++ bs) (sym (step_back n b p few within)) ∙ r.parts; below = r.below }
       | inr h ↦ subst (λ (y : ℕ × List ℕ). Spells (decimal n ++ b ∷ bs) y.0 y.1) (same_Some (n, b ∷ bs) x h.1) (record { parts = refl; below = lt })
     ]
 
@@ -55,16 +55,16 @@ number_spelled [] x e = absurd cc
 number_spelled (b ∷ bs) x e =
     elim (chosen (nat_eq b 48) (Some (0, bs)) (cond (is_digit b) (digits_from (b - 48) bs) None) (Some x) e) [
       | inl h ↦
-        let zero_digit : b ≡ 48 = eqb-true _ _ h.0 in
-        subst (λ (y : ℕ × List ℕ). Spells (b ∷ bs) y.0 y.1) (same_Some (0, bs) x h.1) (record { parts = ap (λ (t : List ℕ). t ++ bs) (ap (λ (c : ℕ). c ∷ []) zero_digit ∙ sym (decimal_digit 0 (omega arith))); below = omega arith })
+          let zero_digit : b ≡ 48 = eqb-true _ _ h.0 in
+          subst (λ (y : ℕ × List ℕ). Spells (b ∷ bs) y.0 y.1) (same_Some (0, bs) x h.1) (record { parts = ap (λ (t : List ℕ). t ++ bs) (ap (λ (c : ℕ). c ∷ []) zero_digit ∙ sym (decimal_digit 0 (omega arith))); below = omega arith })
       | inr h ↦
-        let g = guard_some (is_digit b) (digits_from (b - 48) bs) x h.1 in
-        let within : (48 ≤ b) × (b ≤ 57) = digit_within b g.0 in
-        let other : b ≡ 48 → ⊥ = eqb-false b 48 h.0 in
-        let more : 0 < b - 48 = omega arith in
-        let r = digits_are (b - 48) bs x more (omega arith) g.1 in
-        let first : decimal (b - 48) ≡ b ∷ [] = decimal_digit (b - 48) (omega arith) ∙ ap (λ (c : ℕ). c ∷ []) (omega arith) in
-        record { parts = ap (λ (t : List ℕ). t ++ bs) (sym first) ∙ r.parts; below = r.below }
+          let g = guard_some (is_digit b) (digits_from (b - 48) bs) x h.1 in
+          let within : (48 ≤ b) × (b ≤ 57) = digit_within b g.0 in
+          let other : b ≡ 48 → ⊥ = eqb-false b 48 h.0 in
+          let more : 0 < b - 48 = omega arith in
+          let r = digits_are (b - 48) bs x more (omega arith) g.1 in
+          let first : decimal (b - 48) ≡ b ∷ [] = decimal_digit (b - 48) (omega arith) ∙ ap (λ (c : ℕ). c ∷ []) (omega arith) in
+          record { parts = ap (λ (t : List ℕ). t ++ bs) (sym first) ∙ r.parts; below = r.below }
     ]
 
 -- ---- and back
@@ -87,11 +87,11 @@ digits_again n lt =
     decimal_by_steps (λ k ds. k < 1000000 → 0 < k → (rest : List ℕ) → number_at (ds ++ rest) ≡ digits_from k rest)
     (λ k one below positive rest. first_digit k rest one positive)
     (λ k ds ten ih below positive rest.
-        let whole : k / 10 * 10 + k % 10 ≡ k = omega arith in
-        ap number_at (append_assoc ds ((48 + k % 10) ∷ []) rest)
-        ∙ ih (omega arith) (omega arith) ((48 + k % 10) ∷ rest)
-        ∙ next_digit (k / 10) (k % 10) rest (omega arith) (omega arith)
-        ∙ ap (λ (m : ℕ). digits_from m rest) whole)
+    let whole : k / 10 * 10 + k % 10 ≡ k = omega arith in
+    ap number_at (append_assoc ds ((48 + k % 10) ∷ []) rest)
+    ∙ ih (omega arith) (omega arith) ((48 + k % 10) ∷ rest)
+    ∙ next_digit (k / 10) (k % 10) rest (omega arith) (omega arith)
+    ∙ ap (λ (m : ℕ). digits_from m rest) whole)
     n (omega arith) lt
 
 stops : (n c : ℕ) (rest : List ℕ) → is_digit c ≡ false → digits_from n (c ∷ rest) ≡ Some (n, c ∷ rest)

@@ -1,20 +1,17 @@
 -- The instructions of the first form.
-use Rattle.std.proofs.Common.{◌≡◌, ℕ, suc, ◌-◌, ◌≤◌, Bool, true, false, ◌&&◌, nat_lt, List, [], ◌∷◌, length, Option, Some, None, refl, sym, ap, ◌∙◌, arith, IsTrue}
-use Rattle.std.specs.Prelude.{slice_get, negsuc, pos}
+use Rattle.std.proofs.Common.{◌≡◌, ℕ, ◌≤◌, true, List, [], ◌∷◌, ◌++◌, length, refl, arith}
 use Rattle.std.specs.List.{list_all}
 use Rattle.std.proofs.lemmas.Bool.{and_parts, and_from}
-use native.Mathlib.Numerals.{unary_clauses}
 use Rattle.w32_base.specs.declared.instr.Instr.{Instr}
 use Rattle.w32_base.specs.declared.instr.Instr.TheVariants.{GetPid, Kill, Exit}
-use Rattle.w32_base.specs.declared.instr.Operand.TheVariants.{Number, Register}
 use Rattle.w32_base.specs.Targets.{is_target_below, are_targets_below}
 use Rattle.layer_spec.specs.FirstForm.{is_first_form_instr, is_first_form_code, is_exit}
-use Rattle.first_form.specs.Reading.{ends_in_exit, from_option}
+use Rattle.first_form.specs.Reading.{ends_in_exit}
 
-pub ends_at_last : (code : List Instr) → ends_in_exit code ≡ from_option false is_exit (slice_get code (length code - 1))
-ends_at_last [] = refl
-ends_at_last (i ∷ []) = refl
-ends_at_last (i ∷ j ∷ is) = simp unary_clauses (simp unary_clauses at (ends_at_last (j ∷ is)))
+pub ends_at_last : (is : List Instr) (i : Instr) → ends_in_exit (is ++ i ∷ []) ≡ is_exit i
+ends_at_last [] i = refl
+ends_at_last (j ∷ []) i = refl
+ends_at_last (j ∷ k ∷ is) i = ends_at_last (k ∷ is) i
 
 -- a program of the first form, taken apart
 pub record IsProgram (code : List Instr) : Type 0 where

@@ -1,19 +1,17 @@
 -- What is read is a script of the first form, and a script of the first form is read.
-use Rattle.std.proofs.Common.{◌≡◌, ℕ, zero, suc, ◌+◌, ◌<◌, ◌≤◌, Bool, true, false, ◌&&◌, cond, nat_le, List, [], ◌∷◌, ◌++◌, length, map, Option, Some, None, refl, sym, ap, subst, ◌∙◌, append_assoc, arith}
+use Rattle.std.proofs.Common.{◌≡◌, ℕ, zero, suc, ◌≤◌, true, false, ◌&&◌, cond, nat_le, List, [], ◌∷◌, ◌++◌, length, map, Option, Some, None, refl, sym, ap, subst, ◌∙◌, append_assoc, arith}
 use Rattle.std.specs.Prelude.{codes}
 use Rattle.std.specs.List.{list_all, flat_map}
 use Rattle.std.specs.Fmt.{decimal}
 use Rattle.std.proofs.lemmas.Bool.{and_parts, and_from, leb-true, le-leb}
 use Rattle.std.proofs.lemmas.Option.{same_Some}
 use Rattle.w32_base.specs.declared.instr.Instr.{Instr}
-use Rattle.layer_spec.specs.FirstForm.{instr_line, is_first_form_instr, is_first_form_code, script_lines, last_lines, text_of, IsFirstForm}
-use Rattle.first_form.specs.declared.error.ReadError.{ReadError}
-use Rattle.first_form.specs.declared.error.ReadError.TheVariants.{Unbuilt, Memory}
-use Rattle.first_form.specs.Reading.{Fails, ◌>>=◌, after, number_at, instr_at, with_first, from_option, code_at, budget_at, ends_in_exit, is_empty, is_end, script_at}
+use Rattle.layer_spec.specs.FirstForm.{instr_line, is_first_form_instr, script_lines, last_lines, text_of, IsFirstForm}
+use Rattle.first_form.specs.Reading.{◌>>=◌, after, number_at, instr_at, with_first, from_option, code_at, budget_at, ends_in_exit, is_empty, is_end, script_at}
 use Rattle.first_form.proofs.Words.{guard_some, after_is}
 use Rattle.first_form.proofs.Numbers.{number_spelled, number_again}
 use Rattle.first_form.proofs.Instructions.{bind_some, line, instr_spelled, instr_again}
-use Rattle.first_form.proofs.Programs.{IsProgram, program_parts, program_from}
+use Rattle.first_form.proofs.Programs.{program_parts, program_from}
 
 -- ---- the instructions' lines
 
@@ -39,9 +37,9 @@ code_spelled (suc most) bytes =
     let go : (o : Option (Instr × List ℕ)) → instr_at bytes ≡ o → read (step o) = λ o. elim o as (λ o. instr_at bytes ≡ o → read (step o)) [
       | None ↦ λ e. record { parts = refl; each = refl; few = omega arith }
       | Some x ↦ λ e.
-        let l = instr_spelled bytes x e in
-        more_lines bytes x.1 most x.0 (code_at most x.1).0 (code_at most x.1).1 l.parts l.first_form (code_spelled most x.1)
-      ] in
+          let l = instr_spelled bytes x e in
+          more_lines bytes x.1 most x.0 (code_at most x.1).0 (code_at most x.1).1 l.parts l.first_form (code_spelled most x.1)
+    ] in
     go (instr_at bytes) refl
 
 code_again : (most : ℕ) (code : List Instr) (rest : List ℕ) → length code ≤ most → list_all is_first_form_instr code ≡ true → instr_at rest ≡ None → code_at most (flat_map line code ++ rest) ≡ (code, rest)
@@ -99,8 +97,8 @@ end_spelled bytes h =
       | Some rest ↦ elim rest as (λ r. after tail bytes ≡ Some r → is_empty r ≡ true → bytes ≡ tail) [
         | [] ↦ λ e f. after_is tail bytes [] e
         | b ∷ bs ↦ λ e f. absurd cc
-        ]
-      ] in
+      ]
+    ] in
     go (after tail bytes) refl h
 
 end_again : is_end tail ≡ true
@@ -153,11 +151,14 @@ script_again bytes budget code h =
     ap script_at parts
     ∙ rw (budget_again budget (flat_map line code ++ tail) h.budget_in_range, code_again 4000 code tail h.code_in_range p.each no_line, end_again, last) refl
 
--- of a script of the first form nothing but want of memory is told
-pub only_memory : (bytes : List ℕ) (budget : ℕ) (code : List Instr) (e : ReadError) → Fails e (script_at bytes) → IsFirstForm bytes budget code → e ≡ Memory
-only_memory bytes budget code Memory fails h = refl
-only_memory bytes budget code Unbuilt fails h = absurd (let again = script_again bytes budget code h in cc)
+-- what the outline of a script says, with the instructions that are read then
+pub is_read : (bytes : List ℕ) (n : ℕ) (is code : List Instr) → Some (n, is) ≡ script_at bytes → code ≡ is → IsFirstForm bytes n code
+is_read bytes n is code e same = subst (λ (c : List Instr). IsFirstForm bytes n c) (sym same) (script_spelled bytes (n, is) (sym e))
 
 -- a script is one of the first form in one way
-pub same_script : (bytes : List ℕ) (budget : ℕ) (code : List Instr) (n : ℕ) (is : List Instr) → IsFirstForm bytes budget code → script_at bytes ≡ Some (n, is) → ◌≡◌ {A = ℕ × List Instr} (n, is) (budget, code)
-same_script bytes budget code n is h e = same_Some (n, is) (budget, code) (sym e ∙ script_again bytes budget code h)
+pub same_script : (bytes : List ℕ) (n : ℕ) (is code : List Instr) (budget : ℕ) (others : List Instr) → Some (n, is) ≡ script_at bytes → code ≡ is → IsFirstForm bytes budget others → ◌≡◌ {A = ℕ × List Instr} (n, code) (budget, others)
+same_script bytes n is code budget others e same h = ap (λ (c : List Instr). (n, c)) same ∙ same_Some (n, is) (budget, others) (e ∙ script_again bytes budget others h)
+
+-- a text without an outline is no script of the first form
+pub no_script : (bytes : List ℕ) (budget : ℕ) (code : List Instr) → None ≡ script_at bytes → IsFirstForm bytes budget code → ⊥
+no_script bytes budget code e h = let again = script_again bytes budget code h in cc

@@ -1,24 +1,13 @@
 -- Reading a script of the first form from left to right.
-use Rattle.std.specs.Prelude.{◌≡◌, ℕ, zero, suc, ◌+◌, ◌-◌, ◌*◌, pos, Bool, true, false, ◌&&◌, nat_eq, nat_le, nat_lt, List, [], ◌∷◌, ◌++◌, length, codes, Option, Some, None, option_and_then, Result, Ok, Err, if◌then◌else◌}
+use Rattle.std.specs.Prelude.{ℕ, zero, suc, ◌+◌, ◌-◌, ◌*◌, pos, Bool, true, false, ◌&&◌, nat_eq, nat_le, nat_lt, List, [], ◌∷◌, codes, Option, Some, None, option_and_then, if◌then◌else◌}
 use Rattle.w32_base.specs.declared.instr.Instr.{Instr}
 use Rattle.w32_base.specs.declared.instr.Instr.TheVariants.{GetPid, Kill, Exit}
 use Rattle.w32_base.specs.declared.instr.Operand.TheVariants.{Number}
 use Rattle.layer_spec.specs.FirstForm.{is_exit}
-use Rattle.first_form.specs.declared.error.ReadError.{ReadError}
-use Rattle.first_form.specs.declared.error.ReadError.TheVariants.{Unbuilt, Memory}
 
 infixl 10 ◌>>=◌
 abbrev pub ◌>>=◌ : {A B : Type 0} → Option A → (A → Option B) → Option B
 o >>= f = option_and_then f o
-
--- What a function returned, seen by view, is what reading gives, unless memory ran out.
-abbrev pub Fails : {Y : Type 0} → ReadError → Option Y → Type 0
-Fails Memory read = Unit {0}
-Fails Unbuilt read = read ≡ None
-
-abbrev pub Gives : {X Y : Type 0} → (X → Y) → Result X ReadError → Option Y → Type 0
-Gives view (Ok x) read = read ≡ Some (view x)
-Gives view (Err e) read = Fails e read
 
 -- the bytes after a word, where they begin with it
 unfoldable pub after : List ℕ → List ℕ → Option (List ℕ)

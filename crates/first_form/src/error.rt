@@ -3,14 +3,14 @@
 ghost use Rattle.std.specs.Prelude.{◌≡◌};
 ghost use Rattle.first_form.specs.declared.error.ReadError.TheVariants.{Memory};
 
-use std::alloc::{AllocError, AllocFailed};
+use std::alloc::AllocError;
 
 /// Why a script could not be read.
 #[derive(Clone, Copy, Debug, PartialEq, Eq)]
 pub enum ReadError {
     /// The text isn't of the first form.
     Unbuilt,
-    /// Memory ran out.
+    /// Memory ran out. The text is of the first form.
     Memory,
 }
 
@@ -18,14 +18,6 @@ impl From<AllocError> for ReadError {
     ghost from_gives = { λ _ e. e ≡ Memory };
 
     fn from(_e: AllocError) -> ReadError {
-        ReadError::Memory
-    }
-}
-
-impl<T: Drop> From<AllocFailed<T>> for ReadError {
-    ghost from_gives = { λ _ e. e ≡ Memory };
-
-    fn from(_e: AllocFailed<T>) -> ReadError {
         ReadError::Memory
     }
 }

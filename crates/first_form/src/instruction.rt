@@ -1,12 +1,12 @@
 //! The lines of a script's program.
 
-ghost use Rattle.std.specs.Prelude.{◌≡◌, option_map, List, length};
-ghost use Rattle.first_form.specs.Reading.{Gives, get_pid_at, kill_at, exit_at, instr_at, code_at};
+ghost use Rattle.std.specs.Prelude.{◌≡◌, option_map, IfOk};
+ghost use Rattle.layer_spec.specs.FirstForm.{is_exit};
+ghost use Rattle.first_form.specs.Reading.{get_pid_at, kill_at, exit_at, instr_at, code_at, ends_in_exit};
 
-use crate::error::ReadError;
 use crate::number::number_at;
 use crate::word::after;
-use std::alloc::Global;
+use std::alloc::{AllocError, Global};
 use w32_base::{Instr, Operand};
 
 /// How many instructions a program may have.
@@ -58,9 +58,35 @@ fn instr_at(bytes: &[u8]) -> Option<(Instr, &[u8])>
     }
 }
 
-/// The instructions on the lines at the front, at most 4000 of them, and the bytes after these lines.
-pub fn code_at(alloc: Global, bytes: &[u8]) -> Result<(Vec<Instr>, &[u8]), ReadError>
-    ensures { Gives (λ x. (x.0.items, x.1.now)) result (Some (code_at 4000 bytes.now)) }
+fn is_exit(instr: Instr) -> bool
+    ensures { result ≡ is_exit instr }
+{
+    matches!(instr, Instr::Exit(_))
+}
+
+/// Whether the last of the instructions on the lines at the front, at most 4000, is an exit, and the bytes after these
+/// lines.
+pub fn skip_code(bytes: &[u8]) -> (bool, &[u8])
+    ensures last { result.0 ≡ ends_in_exit (code_at 4000 bytes.now).0 }
+    ensures rest { result.1.now ≡ (code_at 4000 bytes.now).1 }
+{
+    let mut ended = false;
+    let mut rest = bytes;
+    for _ in 0..MOST_INSTRUCTIONS {
+        match instr_at(rest) {
+            None => break,
+            Some((instr, after)) => {
+                ended = is_exit(instr);
+                rest = after;
+            }
+        }
+    }
+    (ended, rest)
+}
+
+/// The instructions on the lines at the front, at most 4000 of them.
+pub fn code_at(alloc: Global, bytes: &[u8]) -> Result<Vec<Instr>, AllocError>
+    ensures { IfOk result (λ code. code.items ≡ (code_at 4000 bytes.now).0) }
 {
     let mut code = Vec::new(alloc);
     let mut rest = bytes;
@@ -73,5 +99,5 @@ pub fn code_at(alloc: Global, bytes: &[u8]) -> Result<(Vec<Instr>, &[u8]), ReadE
             }
         }
     }
-    Ok((code, rest))
+    Ok(code)
 }

@@ -3,10 +3,12 @@ use std::test::Fail;
 use w32_base::{Instr, Operand};
 
 /// One process looks at its number, sends signal 0 to itself and exits.
-const FIRST: &[u8] = b"cygscript 1\nslots 1\nrows 1\nbudget 100\nprogram main heap 0 stack 64\ngetpid\nkill 2 0\nexit 0\nschedule\nsettle\n";
+const FIRST: &[u8] =
+    b"cygscript 1\nslots 1\nrows 1\nbudget 100\nprogram main heap 0 stack 64\ngetpid\nkill 2 0\nexit 0\nschedule\nsettle\n";
 
 /// One process sends signal 0 to a process that there isn't, and exits with 4.
-const SECOND: &[u8] = b"cygscript 1\nslots 1\nrows 1\nbudget 500000\nprogram main heap 0 stack 64\nkill 3 0\nexit 4\nschedule\nsettle\n";
+const SECOND: &[u8] =
+    b"cygscript 1\nslots 1\nrows 1\nbudget 500000\nprogram main heap 0 stack 64\nkill 3 0\nexit 4\nschedule\nsettle\n";
 
 const HEAD: &[u8] = b"cygscript 1\nslots 1\nrows 1\nbudget 9\nprogram main heap 0 stack 64\n";
 
@@ -46,7 +48,10 @@ fn reads_the_first(rt: HostRuntime) -> Result<(), Fail> {
     assert_eq!(rt; program.stack, 64);
     assert_eq!(rt; program.code.len(), 3);
     assert_eq!(rt; program.code.get(0), Some(Instr::GetPid));
-    assert_eq!(rt; program.code.get(1), Some(Instr::Kill(Operand::Number(2), Operand::Number(0))));
+    assert_eq!(rt;
+        program.code.get(1),
+        Some(Instr::Kill(Operand::Number(2), Operand::Number(0)))
+    );
     assert_eq!(rt; program.code.get(2), Some(Instr::Exit(Operand::Number(0))));
     Ok(())
 }
@@ -57,7 +62,10 @@ fn reads_the_second(rt: HostRuntime) -> Result<(), Fail> {
     let program = script.setup.programs.first();
     assert_eq!(rt; script.setup.limits.budget, 500_000);
     assert_eq!(rt; program.code.len(), 2);
-    assert_eq!(rt; program.code.get(0), Some(Instr::Kill(Operand::Number(3), Operand::Number(0))));
+    assert_eq!(rt;
+        program.code.get(0),
+        Some(Instr::Kill(Operand::Number(3), Operand::Number(0)))
+    );
     assert_eq!(rt; program.code.get(1), Some(Instr::Exit(Operand::Number(4))));
     Ok(())
 }
