@@ -3,6 +3,9 @@
 ghost use Rattle.std.specs.Prelude.{◌≡◌, ◌≤◌, ◌<◌, [], ◌∷◌, true, length, vec_len, vec_capacity, IfOk};
 ghost use Rattle.win32_spec.specs.Ready.{is_ready};
 ghost use Rattle.win32_spec.specs.Schedule.{EndsBy, Settle};
+ghost use Rattle.std.specs.List.{AllPass};
+ghost use Rattle.layer_spec.specs.LogText.{is_built_entry};
+ghost use Rattle.cyg_cli.specs.RunOf.{IsRunOf};
 ghost use Rattle.cyg_cli.specs.World.{Drives, IsWorldOpening, RunsToTheEnd};
 
 use crate::layer::part::ThreadPart;
@@ -15,7 +18,9 @@ use w32_machine::{DrivenTurn, Machine};
 /// Runs the script's first program until no thread is ready or the journal has as many entries as the budget. All
 /// memory is taken before the first directive.
 pub fn run(alloc: Global, setup: &Setup) -> Result<Ran, AllocError>
-    ensures { IfOk result (λ ran. RunsToTheEnd setup.now ran.journal ran.end) }
+    ensures parts { IfOk result (λ ran. RunsToTheEnd setup.now ran.journal ran.end) }
+    ensures run { IfOk result (λ ran. IsRunOf setup.now ran.journal ran.end) }
+    ensures built { IfOk result (λ ran. AllPass (λ e. is_built_entry e.event) ran.journal) }
 {
     let mut world = open(alloc, setup)?;
     let budget = setup.limits.budget;
