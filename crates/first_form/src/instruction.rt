@@ -12,6 +12,13 @@ use w32_base::{Instr, Operand};
 /// How many instructions a program may have.
 const MOST_INSTRUCTIONS: u16 = 4000;
 
+/// The greatest process number that `kill` may name.
+const LAST_PROCESS: u32 = 4001;
+
+/// The greatest status of `exit`.
+const LAST_STATUS: u32 = 255;
+
+/// The line `getpid`, and the bytes after it.
 #[tactic(auto, unfolding(crate::specs::Reading::get_pid_at))]
 fn get_pid_at(bytes: &[u8]) -> Option<(Instr, &[u8])>
     ensures { option_map (λ x. (x.0, x.1.now)) result ≡ get_pid_at bytes.now }
@@ -20,29 +27,31 @@ fn get_pid_at(bytes: &[u8]) -> Option<(Instr, &[u8])>
     Some((Instr::GetPid, rest))
 }
 
+/// The line `kill N 0` with N from 1 to 4001, and the bytes after it.
 #[tactic(auto, unfolding(crate::specs::Reading::kill_at))]
 fn kill_at(bytes: &[u8]) -> Option<(Instr, &[u8])>
     ensures { option_map (λ x. (x.0, x.1.now)) result ≡ kill_at bytes.now }
 {
     let (number, rest) = number_at(after(bytes, b"kill ")?)?;
     let rest = after(rest, b" 0\n")?;
-    if number < 1 || number > 4001 {
+    if number < 1 || number > LAST_PROCESS {
         return None;
     }
     let process = Operand::Number(number as i32);
     Some((Instr::Kill(process, Operand::Number(0)), rest))
 }
 
+/// The line `exit N` with N up to 255, and the bytes after it.
 #[tactic(auto, unfolding(crate::specs::Reading::exit_at))]
 fn exit_at(bytes: &[u8]) -> Option<(Instr, &[u8])>
     ensures { option_map (λ x. (x.0, x.1.now)) result ≡ exit_at bytes.now }
 {
-    let (code, rest) = number_at(after(bytes, b"exit ")?)?;
+    let (status, rest) = number_at(after(bytes, b"exit ")?)?;
     let rest = after(rest, b"\n")?;
-    if code > 255 {
+    if status > LAST_STATUS {
         return None;
     }
-    Some((Instr::Exit(Operand::Number(code as i32)), rest))
+    Some((Instr::Exit(Operand::Number(status as i32)), rest))
 }
 
 /// The instruction on the line at the front, and the bytes after that line.

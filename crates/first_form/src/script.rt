@@ -71,7 +71,8 @@ pub fn read_first_form(alloc: Global, bytes: &[u8]) -> Result<FirstForm, ReadErr
         → MatchResult result (λ script. IsOneProgram script.setup budget code) (λ e. e ≡ ReadError.Memory) }
 
     // Memory runs out for nothing else.
-    ensures memory { result ≡ Err ReadError.Memory → (budget : ℕ) × (code : List Instr) × IsFirstForm bytes.now budget code }
+    ensures memory { result ≡ Err ReadError.Memory
+        → (budget : ℕ) × (code : List Instr) × IsFirstForm bytes.now budget code }
 {
     let Some((budget, lines)) = outline(bytes) else {
         return Err(ReadError::Unbuilt);
