@@ -1,0 +1,79 @@
+-- How the top call ends.
+use Rattle.std.specs.Prelude.{◌≡◌, ◌≢◌, ℕ, ◌+◌, ◌⊎◌, List, [], ◌∷◌, ◌++◌, Option, IfSome, codes}
+use Rattle.std.specs.Io.KnownBytes.{Appends}
+use Rattle.w32_base.specs.declared.entry.Entry.{Entry}
+use Rattle.w32_base.specs.declared.entry.End.{End}
+use Rattle.w32_base.specs.declared.entry.End.TheVariants.{Quiet, Given, Budget}
+use Rattle.w32_base.specs.declared.instr.Instr.{Instr}
+use Rattle.w32_base.specs.declared.setup.Setup.{Setup}
+use Rattle.cyg_io.specs.Counts.{Rose, RoseBy}
+use Rattle.cyg_io.specs.Sink.{AppendsPart}
+use Rattle.first_form.specs.OneProgram.{IsOneProgram}
+use Rattle.layer_spec.specs.FirstForm.{IsFirstForm}
+use Rattle.layer_spec.specs.LogText.{calls_log}
+use Rattle.cyg_cli.specs.RunOf.{IsRunOf}
+
+-- what a source and a sink tell: the bytes left and the bytes held, where they tell them, and their counts
+pub record Outside : Type 0 where
+  pub left : Option (List ℕ)
+  pub read_faults : ℕ
+  pub given : ℕ
+  pub ends : ℕ
+  pub held : Option (List ℕ)
+  pub write_faults : ℕ
+
+-- the words that are accepted
+abbrev pub run_calls : List (List ℕ)
+run_calls = codes "run" ∷ codes "calls" ∷ []
+
+-- the line that refuses a text
+abbrev pub refusal : List ℕ
+refusal = codes "fault 0 Unbuilt" ++ 10 ∷ []
+
+-- a text that is no script of the first form
+abbrev pub IsUnbuilt : List ℕ → Type 0
+IsUnbuilt text = (budget : ℕ) (code : List Instr) → IsFirstForm text budget code → ⊥
+
+-- the status of a run that ended so
+abbrev pub status_of : End → ℕ
+status_of Quiet = 0
+status_of Given = 0
+status_of Budget = 6
+
+-- the source was read to its end, or to one byte past the limit
+abbrev pub IsRead : Outside → Outside → Type 0
+IsRead before after = RoseBy 1 before.ends after.ends ⊎ RoseBy 1048577 before.given after.given
+
+-- The text was read and is none of a script. Where the source tells its bytes, they are no script of the first form.
+pub record Refuses (before after : Outside) : Type 0 where
+  pub read : IsRead before after
+  pub text : IfSome before.left IsUnbuilt
+
+-- The text was read to its end and is a script of the first form, whose program was run.
+pub record Runs (before after : Outside) (entries : List Entry) (end : End) : Type 0 where
+  pub budget : ℕ
+  pub code : List Instr
+  pub setup : Setup
+  pub ended : RoseBy 1 before.ends after.ends
+  pub text : IfSome before.left (λ text. IsFirstForm text budget code)
+  pub script : IsOneProgram setup budget code
+  pub run : IsRunOf setup entries end
+
+-- The ways in which the top call ends, with its status and its journal.
+pub data Ends (words : List (List ℕ)) (before after : Outside) (status : ℕ) (entries : List Entry) : Type 0 where
+  -- the words aren't accepted, and nothing is read or written
+  OtherWords : words ≢ run_calls → after ≡ before → status ≡ 2 → entries ≡ [] → Ends
+  -- the source had a fault, and nothing is written
+  ReadFault : words ≡ run_calls → Rose before.read_faults after.read_faults → after.held ≡ before.held → status ≡ 4 → entries ≡ [] → Ends
+  -- memory ran out before the first directive, and nothing is written
+  NoMemory : words ≡ run_calls → after.held ≡ before.held → status ≡ 7 → entries ≡ [] → Ends
+  -- the refusal was written
+  Refused : words ≡ run_calls → Refuses before after → Appends before.held after.held refusal → status ≡ 3 → entries ≡ [] → Ends
+  -- the sink had a fault in the refusal
+  RefusedInPart : words ≡ run_calls → Refuses before after → AppendsPart before.held after.held refusal → Rose before.write_faults after.write_faults
+      → status ≡ 5 → entries ≡ [] → Ends
+  -- the log was written
+  Logged : (end : End) → words ≡ run_calls → Runs before after entries end → Appends before.held after.held (calls_log entries end) → status ≡ status_of end → Ends
+  -- the sink had a fault in the log
+  LoggedInPart : (end : End) → words ≡ run_calls → Runs before after entries end → AppendsPart before.held after.held (calls_log entries end)
+      → Rose before.write_faults after.write_faults → status ≡ 5 → Ends

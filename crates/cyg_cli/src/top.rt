@@ -1,0 +1,147 @@
+//! The top call: from the words and the bytes of a script to the bytes of its log.
+
+ghost use Rattle.std.specs.Prelude.{◌≡◌, ◌≢◌, ◌<◌, ◌≤◌, [], ◌∷◌, ◌++◌, ◌↔◌, ◌⊎◌, List, ℕ, map, codes, IsTrue, IfOk, IfSome, OnOk, OnErr, MatchResult};
+ghost use Rattle.std.specs.String.{string_bytes};
+ghost use Rattle.std.specs.List.{AllPass};
+ghost use Rattle.layer_spec.specs.LogText.{is_built_entry};
+ghost use Rattle.cyg_cli.specs.Top.{Ends, run_calls, status_of as status_number};
+ghost use Rattle.cyg_cli.specs.TopParts.{IsRefusal, IsLogging, IsLogOf};
+
+use crate::run::run;
+use crate::world::Ran;
+use cyg_io::{ReadAllFault, Sink, Source, read_all, write_all};
+use first_form::{FirstForm, ReadError, read_first_form};
+use log_text::write_calls;
+use std::alloc::Global;
+use std::marker::Model;
+use w32_base::{End, Journal};
+
+/// How the program ends.
+///
+/// 0: the whole log was written. 2: the words aren't accepted. 3: the text isn't a script. 4: the source had a fault.
+/// 5: the sink had a fault. 6: the journal has as many entries as the script's budget, and work remains. 7: memory ran
+/// out.
+#[derive(Clone, Copy, Debug, PartialEq, Eq)]
+pub struct Status(u8);
+
+impl Model for Status {
+    ghost use Rattle.std.specs.Prelude.{ℕ, ◌≤◌};
+
+    ghost Value = { ℕ };
+
+    ghost view = { λ s. s.0 };
+
+    ghost invariant = { λ s. s.0 ≤ 7 };
+
+    ghost inverse = { λ n. record { 0 = n } };
+}
+
+impl Status {
+    /// The number, from 0 to 7.
+    pub fn get(self) -> u8
+        ensures value { result ≡ self }
+        ensures range { self ≤ 7 }
+    {
+        self.0
+    }
+}
+
+/// The status, and the journal of the world that was run; it is empty where none was run.
+#[derive(Drop)]
+pub struct TopAnswer {
+    /// How the call ended.
+    pub status: Status,
+    /// The journal.
+    pub journal: Journal,
+}
+
+/// The most bytes that a script may have.
+const MOST_BYTES: usize = 1_048_576;
+
+fn without_journal(alloc: Global, status: Status) -> TopAnswer
+    ensures { result ≡ record { status = status; journal = [] } }
+{
+    TopAnswer {
+        status,
+        journal: Journal::from_vec(Vec::new(alloc)),
+    }
+}
+
+fn are_accepted(words: &Vec<String>) -> bool
+    ensures { IsTrue result ↔ (map string_bytes words.now.items ≡ run_calls) }
+{
+    match words.as_slice() {
+        [first, second] => first.as_bytes() == b"run".as_slice() && second.as_bytes() == b"calls".as_slice(),
+        _ => false,
+    }
+}
+
+/// Carries out a command. The words are the program's arguments after its own name; so far `run calls` is accepted,
+/// and the source gives a script of the first form.
+pub fn run_top<S: Source, K: Sink>(
+    alloc: Global,
+    words: &Vec<String>,
+    src: &mut S,
+    sink: &mut K,
+) -> TopAnswer
+    ensures story { Ends (map string_bytes words.now.items)
+        (record { left = S.remaining src.old; read_faults = S.faults src.old; given = S.given src.old; ends = S.ends src.old; held = K.held sink.old; write_faults = K.faults sink.old })
+        (record { left = S.remaining src.new; read_faults = S.faults src.new; given = S.given src.new; ends = S.ends src.new; held = K.held sink.new; write_faults = K.faults sink.new })
+        result.status result.journal }
+{
+    if !are_accepted(words) {
+        return without_journal(alloc, Status(2));
+    }
+    let bytes = match read_all(alloc, src, MOST_BYTES) {
+        Ok(bytes) => bytes,
+        Err(ReadAllFault::Read) => return without_journal(alloc, Status(4)),
+        Err(ReadAllFault::Memory) => return without_journal(alloc, Status(7)),
+        Err(ReadAllFault::Large) => return refuse(alloc, sink),
+    };
+    match read_first_form(alloc, &bytes) {
+        Ok(form) => run_form(alloc, &form, sink),
+        Err(ReadError::Memory) => without_journal(alloc, Status(7)),
+        Err(ReadError::Unbuilt) => refuse(alloc, sink),
+    }
+}
+
+fn refuse<K: Sink>(alloc: Global, sink: &mut K) -> TopAnswer
+    ensures { IsRefusal (K.held sink.old) (K.held sink.new) (K.faults sink.old) (K.faults sink.new) result.status result.journal }
+{
+    match write_all(sink, b"fault 0 Unbuilt\n") {
+        Ok(()) => without_journal(alloc, Status(3)),
+        Err(_) => without_journal(alloc, Status(5)),
+    }
+}
+
+fn run_form<K: Sink>(alloc: Global, form: &FirstForm, sink: &mut K) -> TopAnswer
+    ensures { IsLogging form.now.setup (K.held sink.old) (K.held sink.new) (K.faults sink.old) (K.faults sink.new) result.status result.journal }
+{
+    match run(alloc, &form.setup) {
+        Ok(ran) => log(ran, sink),
+        Err(_) => without_journal(alloc, Status(7)),
+    }
+}
+
+fn log<K: Sink>(ran: Ran, sink: &mut K) -> TopAnswer
+    requires { AllPass (λ e. is_built_entry e.event) ran.journal }
+    ensures { IsLogOf ran.journal ran.end (K.held sink.old) (K.held sink.new) (K.faults sink.old) (K.faults sink.new) result.status result.journal }
+{
+    let status = match write_calls(ran.journal.as_slice(), ran.end, sink) {
+        Ok(()) => status_of(ran.end),
+        Err(_) => Status(5),
+    };
+    TopAnswer {
+        status,
+        journal: ran.journal,
+    }
+}
+
+fn status_of(end: End) -> Status
+    ensures { result ≡ status_number end }
+{
+    match end {
+        End::Quiet | End::Given => Status(0),
+        End::Budget => Status(6),
+    }
+}
