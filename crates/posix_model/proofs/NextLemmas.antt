@@ -1,5 +1,5 @@
 -- What is next in a program, and where.
-use Rattle.std.proofs.Common.{◌≡◌, ℕ, ◌<◌, Bool, true, false, cond, ◌||◌, nat_eq, List, [], ◌∷◌, length, Option, Some, None, refl, sym, ◌∙◌, ap, zero, suc, arith}
+use Rattle.std.proofs.Common.{◌≡◌, ℕ, ◌<◌, Bool, true, false, cond, List, [], ◌∷◌, length, Option, Some, None, refl, ◌∙◌, ap, zero, suc}
 use Rattle.std.specs.Prelude.{ℤ, slice_get, unwrap_or, nat_lt}
 use Rattle.std.proofs.Math.Bool.{or-true}
 use Rattle.std.proofs.lemmas.Option.{slice_get_within}
@@ -7,7 +7,7 @@ use Rattle.w32_base.specs.declared.instr.Instr.{Instr}
 use Rattle.w32_base.specs.declared.instr.Instr.TheVariants as instr
 use Rattle.vm_spec.specs.Image.{Image, place_of, program_of, in_use}
 use Rattle.vm_spec.specs.Faults.{faults}
-use Rattle.vm_spec.specs.Step.{Upcoming, LocalInstruction, CallInstruction, ImageFault, upcoming, upcoming_at, is_local}
+use Rattle.vm_spec.specs.Step.{Upcoming, CallInstruction, ImageFault, upcoming, upcoming_at}
 use Rattle.posix_spec.specs.Step.{is_get_pid, is_kill}
 use Rattle.posix_model.specs.Parts.{next_in}
 

@@ -1,5 +1,5 @@
 -- A `kill` is a step exactly by the parts of a State, and leads to the state of the changed parts.
-use Rattle.std.proofs.Common.{◌≡◌, ℕ, ◌+◌, ◌≤◌, Bool, true, false, cond, ◌&&◌, ◌||◌, nat_eq, List, [], ◌∷◌, Option, Some, None, refl, sym, ◌∙◌, ap, zero, suc, arith, subst}
+use Rattle.std.proofs.Common.{◌≡◌, ℕ, Bool, true, false, cond, ◌&&◌, ◌||◌, nat_eq, List, [], ◌∷◌, Option, Some, None, refl, sym, ◌∙◌, ap, zero, suc, arith, subst}
 use Rattle.std.specs.Prelude.{ℤ, pos, negsuc, not, nat_le, is_some}
 use Rattle.std.proofs.lemmas.Bool.{eqb-true, eqb-false, ne_eqb, le-leb, and_parts}
 use Rattle.std.proofs.Math.Bool.{and_self, and-false}
@@ -7,9 +7,9 @@ use Rattle.w32_base.specs.declared.event.Answer.{Answer}
 use Rattle.w32_base.specs.declared.event.Answer.TheVariants.{Zero, Error}
 use Rattle.w32_base.specs.declared.event.Errno.TheVariants as errno
 use Rattle.w32_base.specs.declared.instr.Instr.{Instr}
-use Rattle.vm_spec.specs.Image.{Image, image_of}
+use Rattle.vm_spec.specs.Image.{image_of}
 use Rattle.posix_spec.specs.Signals.{generate}
-use Rattle.posix_spec.specs.State.{Record, Numbered, PosixState, record_of}
+use Rattle.posix_spec.specs.State.{Record, PosixState, record_of}
 use Rattle.posix_spec.specs.Step as spec
 use Rattle.posix_model.specs.declared.first.First.{First}
 use Rattle.posix_model.specs.declared.first.FirstLife.{FirstLife}
@@ -103,15 +103,15 @@ same_where a false x y e h = rw e refl
 
 kill_of_two : (code : List Instr) (f : First) (life : FirstLife) (came : Bool) (q s : ℤ) (answer : Answer)
     → let g : First = record f { life = life } in
-      spec.kill_step (code ∷ []) (state_of g came) 2 q s answer (record_of (state_of g came).records 2)
-      ≡ cond (parts.kills code g 2 q s answer) (Some (state_of (killed g s answer) came)) None
+    spec.kill_step (code ∷ []) (state_of g came) 2 q s answer (record_of (state_of g came).records 2)
+    ≡ cond (parts.kills code g 2 q s answer) (Some (state_of (killed g s answer) came)) None
 kill_of_two code f first.Runs came q s answer =
     let g : First = record f { life = first.Runs } in
     let may : Bool → Bool = λ b. not f.due && (spec.is_kill (parts.next_in code (image_of f.own)) (image_of f.own) q s && b) in
     let same : spec.is_answer (spec.kill_answer (state_of g came).records q s) answer ≡ spec.is_answer (parts.kill_answer q s) answer =
-        ap (λ a. spec.is_answer a answer) (kill_answer_is _ q s) in
+    ap (λ a. spec.is_answer a answer) (kill_answer_is _ q s) in
     same_where _ (may (spec.is_answer (parts.kill_answer q s) answer)) _ _ (ap may same)
-        (λ e. killed_is f came q s answer (and_parts _ _ (and_parts (not f.due) _ e).1).1)
+    (λ e. killed_is f came q s answer (and_parts _ _ (and_parts (not f.due) _ e).1).1)
 kill_of_two code f (first.Zombie w) came q s answer = refl
 kill_of_two code f (first.Gone w) came q s answer = refl
 
@@ -139,12 +139,15 @@ pub kill_gives : (s : PosixMachine) (code : List Instr) (f : First) (came : Bool
     → (let m : PosixMachine = record { codes = code ∷ []; state = state_of f came } in m) ≡ s → parts.kills code f p q signal answer ≡ true
     → pending ≡ after_kill f.pending signal answer → value ≡ spec.result_of answer → new ≡ answered (record f { pending = pending }) value
     → Gives (spec.kill_step s.codes s.state p q signal answer (record_of s.state.records p)) true s
-        (record { codes = code ∷ []; state = state_of new came })
+    (record { codes = code ∷ []; state = state_of new came })
 kill_gives s code f came p q signal answer pending value new is may e v n =
     let P : PosixMachine → Type 0 = λ s. Gives (spec.kill_step s.codes s.state p q signal answer (record_of s.state.records p)) true s
-        (record { codes = code ∷ []; state = state_of new came }) in
+    (record { codes = code ∷ []; state = state_of new came }) in
     let after : new ≡ killed f signal answer = n ∙ ap (λ x. answered (record f { pending = x }) value) e
-        ∙ ap (λ x. answered (record f { pending = after_kill f.pending signal answer }) x) v in
-    subst P is (kill_steps code f came p q signal answer
-        ∙ ap (λ b. cond b (Some (state_of (killed f signal answer) came)) None) may
-        ∙ ap (λ x. Some (state_of x came)) (sym after), refl)
+    ∙ ap (λ x. answered (record f { pending = after_kill f.pending signal answer }) x) v in
+    subst P is (
+      kill_steps code f came p q signal answer
+          ∙ ap (λ b. cond b (Some (state_of (killed f signal answer) came)) None) may
+          ∙ ap (λ x. Some (state_of x came)) (sym after),
+      refl,
+    )

@@ -1,12 +1,12 @@
 -- Which events are steps, and what changes, by the parts of a State.
-use Rattle.std.specs.Prelude.{◌≡◌, ℕ, ◌-◌, ◌^◌, ℤ, pos, Bool, true, false, ◌&&◌, ◌||◌, not, nat_eq, nat_le, if◌then◌else◌, List, [], ◌∷◌, Option, Some, None, bit_and}
+use Rattle.std.specs.Prelude.{ℕ, ℤ, pos, Bool, true, false, ◌&&◌, ◌||◌, not, nat_eq, nat_le, if◌then◌else◌, List, [], ◌∷◌, Option, Some, None}
 use Rattle.w32_base.specs.declared.event.Answer.{Answer}
 use Rattle.w32_base.specs.declared.event.Answer.TheVariants.{Zero, Error}
 use Rattle.w32_base.specs.declared.event.Errno.TheVariants as errno
 use Rattle.w32_base.specs.declared.instr.Instr.{Instr}
 use Rattle.vm_spec.specs.Image.{Image, image_of, with_image, with_result}
 use Rattle.vm_spec.specs.Step.{Upcoming, upcoming}
-use Rattle.posix_spec.specs.Signals.{all_signals, generate}
+use Rattle.posix_spec.specs.Signals.{generate}
 use Rattle.posix_spec.specs.Step.{code_of, is_get_pid, is_kill, is_invalid_kill, target_of, is_answer, is_same_number, is_status, exit_status, unsigned}
 use Rattle.posix_model.specs.declared.first.First.{First}
 use Rattle.posix_model.specs.declared.first.FirstLife.{FirstLife}

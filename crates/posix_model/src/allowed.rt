@@ -58,7 +58,10 @@ pub fn gets_pid(program: &Program, first: &First, p: Acting, v: Number) -> bool
     ensures value { result ≡ parts.gets_pid program.now.code first.now p v }
     ensures place { result ≡ true → place_of (image_of first.now.own) < 4294967295 }
 {
-    p.get() == FIRST && may_act(first) && is_get_pid(next(program, &first.own)) && is_same(v.get(), 2)
+    p.get() == FIRST
+        && may_act(first)
+        && is_get_pid(next(program, &first.own))
+        && is_same(v.get(), 2)
 }
 
 fn is_get_pid(next: Next) -> bool
@@ -68,7 +71,14 @@ fn is_get_pid(next: Next) -> bool
 }
 
 /// Whether `kill P Q S REPLY` is a step.
-pub fn kills(program: &Program, first: &First, p: Acting, q: Number, s: Number, answer: Answer) -> bool
+pub fn kills(
+    program: &Program,
+    first: &First,
+    p: Acting,
+    q: Number,
+    s: Number,
+    answer: Answer,
+) -> bool
     requires { length first.now.own.dat ≡ 64 }
     ensures value { result ≡ parts.kills program.now.code first.now p q s answer }
     ensures place { result ≡ true → place_of (image_of first.now.own) < 4294967295 }
@@ -85,7 +95,8 @@ fn is_kill(next: Next, own: &Own, q: i64, s: i64) -> bool
 {
     match next {
         Next::Call(CallInstr::Kill(target, signal)) => {
-            is_same(i64::from(operand_value(own, target)), q) && is_same(i64::from(operand_value(own, signal)), s)
+            is_same(i64::from(operand_value(own, target)), q)
+                && is_same(i64::from(operand_value(own, signal)), s)
         }
         _ => false,
     }
@@ -128,7 +139,11 @@ pub fn exit_with(program: &Program, first: &First, p: Acting, v: Number) -> Opti
         return None;
     }
     let status = exit_status(next(program, &first.own), &first.own);
-    if has_status(status, v.get()) { status } else { None }
+    if has_status(status, v.get()) {
+        status
+    } else {
+        None
+    }
 }
 
 /// The status of the `exit` that is next.
@@ -146,7 +161,9 @@ fn exit_status(next: Next, own: &Own) -> Option<u8>
 pub fn host_reads(life: FirstLife, host_came: bool, p: Acting, n: Number) -> bool
     ensures { result ≡ parts.host_reads life host_came p n }
 {
-    p.get() == 0 && !host_came && (has_status(status_of(life), n.get()) || is_same(n.get(), FROM_OUTSIDE))
+    p.get() == 0
+        && !host_came
+        && (has_status(status_of(life), n.get()) || is_same(n.get(), FROM_OUTSIDE))
 }
 
 /// The status of the process's death.

@@ -10,12 +10,11 @@ ghost use Rattle.posix_spec.specs.Step.{get_pid_step, kill_step, exit_step, coll
 ghost use Rattle.posix_spec.specs.Opening.{new_image, opening_of};
 ghost use Rattle.posix_model.specs.Contract.{IsApplied, IsRefused, Gives};
 
-use crate::allowed;
 use crate::copy::copied;
 use crate::fault::ApplyFault;
 use crate::first::{self, FIRST, First, FirstLife};
 use crate::rule::Rule;
-use crate::signals;
+use crate::{allowed, signals};
 use std::alloc::{AllocError, Global};
 use std::marker::Model;
 use w32_base::{Acting, Answer, Bytes, Death, Event, Field, Number, Own, Program};

@@ -1,4 +1,4 @@
-use Rattle.std.proofs.Common.{◌≡◌, ◌<◌, length, ◌∙◌, sym, arith}
+use Rattle.std.proofs.Common.{◌<◌, length, ◌∙◌, sym, arith}
 use Rattle.vm_spec.specs.Image.{image_of, place_of}
 use Rattle.posix_model.proofs.NextLemmas.{next_in-other, upcoming-within}
 use Rattle.posix_model.proofs.allowed.next.Goals as goal

@@ -1,4 +1,4 @@
-use Rattle.std.proofs.Common.{◌≡◌, ℕ, ◌+◌, ◌<◌, ◌≤◌, List, length, take, refl, sym, ◌∙◌, ap, arith, inl, inr}
+use Rattle.std.proofs.Common.{◌≡◌, ℕ, ◌+◌, ◌<◌, List, length, take, refl, ◌∙◌, ap, arith, inl, inr}
 use Rattle.std.specs.Prelude.{slice_get}
 use Rattle.std.proofs.lemmas.List.{take_more}
 use Rattle.std.proofs.lemmas.Option.{slice_get_cases}
@@ -10,7 +10,7 @@ use Rattle.posix_model.proofs.copy.copied.Goals as goal
 take_next : (code : List Instr) (k : ℕ) → k < length code → added (take k code) (slice_get code k) ≡ take (k + 1) code
 take_next code k h =
     elim (slice_get_cases code k).1 [
-        inl (x, within, is, at) ↦ rw is (rw (take_more code k x within, at) refl)
+      | inl (x, within, is, at) ↦ rw is (rw (take_more code k x within, at) refl)
       | inr (past, none) ↦ absurd (omega arith)
     ]
 

@@ -1,7 +1,6 @@
-use Rattle.std.proofs.Common.{◌≡◌, ap, false}
+use Rattle.std.proofs.Common.{ap}
 use Rattle.vm_spec.specs.Image.{Image}
-use Rattle.posix_spec.specs.State.{PosixState, opening, opening_record}
-use Rattle.posix_model.specs.View.{state_of}
+use Rattle.posix_spec.specs.State.{opening, opening_record}
 use Rattle.posix_model.proofs.state.State.open.Goals as goal
 
 pub returns-clause-state : goal.returns-clause-state
