@@ -1,6 +1,6 @@
 //! Process 2, which is the only one so far.
 
-ghost use Rattle.std.specs.Prelude.{◌≡◌, ◌<◌, length, pos, negsuc};
+ghost use Rattle.std.specs.Prelude.{◌≡◌, ◌<◌, length};
 ghost use Rattle.vm_spec.specs.Image.{image_of, place_of};
 ghost use Rattle.posix_spec.specs.Step.{result_of};
 ghost use Rattle.posix_model.specs.Parts as parts;

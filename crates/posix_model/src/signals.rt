@@ -51,7 +51,7 @@ fn generated(pending: u32, s: u32) -> u32
     requires high { s ≤ 31 }
     ensures { result ≡ generate pending s }
 {
-    pending & kept_at(s) | 1 << (s - 1)
+    (pending & kept_at(s)) | (1 << (s - 1))
 }
 
 /// The signals that generation of signal s doesn't take away.

@@ -1,9 +1,6 @@
 //! The state of the POSIX machine, and what an event does to it.
 
 ghost use Rattle.std.specs.Prelude.{◌≡◌, [], ◌∷◌, IfOk, MatchResult, length};
-ghost use Rattle.w32_base.specs.declared.event.Field.TheVariants as field;
-ghost use Rattle.w32_base.specs.declared.event.Death.TheVariants as death;
-ghost use Rattle.w32_base.specs.declared.event.Event.TheVariants as event;
 ghost use Rattle.vm_spec.specs.Image.{image_of};
 ghost use Rattle.posix_spec.specs.State.{record_of};
 ghost use Rattle.posix_spec.specs.Step.{get_pid_step, kill_step, exit_step, collect_step, host_step, posix_step};
