@@ -1,0 +1,6 @@
+pub mod Copies
+pub mod Machine
+pub mod Rules
+pub mod Contract
+pub mod View
+pub mod Parts
