@@ -62,18 +62,18 @@ pub record Runs (before after : Outside) (entries : List Entry) (end : End) : Ty
 -- The ways in which the top call ends, with its status and its journal.
 pub data Ends (words : List (List ℕ)) (before after : Outside) (status : ℕ) (entries : List Entry) : Type 0 where
   -- the words aren't accepted, and nothing is read or written
-  OtherWords : words ≢ run_calls → after ≡ before → status ≡ 2 → entries ≡ [] → Ends
+  OtherWords : words ≢ run_calls → after ≡ before → status ≡ 2 → entries ≡ [] → Ends words before after status entries
   -- the source had a fault, and nothing is written
-  ReadFault : words ≡ run_calls → Rose before.read_faults after.read_faults → after.held ≡ before.held → status ≡ 4 → entries ≡ [] → Ends
+  ReadFault : words ≡ run_calls → Rose before.read_faults after.read_faults → after.held ≡ before.held → status ≡ 4 → entries ≡ [] → Ends words before after status entries
   -- memory ran out before the first directive, and nothing is written
-  NoMemory : words ≡ run_calls → after.held ≡ before.held → status ≡ 7 → entries ≡ [] → Ends
+  NoMemory : words ≡ run_calls → after.held ≡ before.held → status ≡ 7 → entries ≡ [] → Ends words before after status entries
   -- the refusal was written
-  Refused : words ≡ run_calls → Refuses before after → Appends before.held after.held refusal → status ≡ 3 → entries ≡ [] → Ends
+  Refused : words ≡ run_calls → Refuses before after → Appends before.held after.held refusal → status ≡ 3 → entries ≡ [] → Ends words before after status entries
   -- the sink had a fault in the refusal
   RefusedInPart : words ≡ run_calls → Refuses before after → AppendsPart before.held after.held refusal → Rose before.write_faults after.write_faults
-      → status ≡ 5 → entries ≡ [] → Ends
+      → status ≡ 5 → entries ≡ [] → Ends words before after status entries
   -- the log was written
-  Logged : (end : End) → words ≡ run_calls → Runs before after entries end → Appends before.held after.held (calls_log entries end) → status ≡ status_of end → Ends
+  Logged : (end : End) → words ≡ run_calls → Runs before after entries end → Appends before.held after.held (calls_log entries end) → status ≡ status_of end → Ends words before after status entries
   -- the sink had a fault in the log
   LoggedInPart : (end : End) → words ≡ run_calls → Runs before after entries end → AppendsPart before.held after.held (calls_log entries end)
-      → Rose before.write_faults after.write_faults → status ≡ 5 → Ends
+      → Rose before.write_faults after.write_faults → status ≡ 5 → Ends words before after status entries

@@ -67,13 +67,21 @@ fn without_journal(alloc: Global, status: Status) -> TopAnswer
     }
 }
 
+fn is_word(word: &String, text: &str) -> bool
+    ensures { IsTrue result ↔ (string_bytes word.now ≡ text.now) }
+{
+    word.as_str() == text
+}
+
 fn are_accepted(words: &Vec<String>) -> bool
     ensures { IsTrue result ↔ (map string_bytes words.now.items ≡ run_calls) }
 {
-    match words.as_slice() {
-        [first, second] => first.as_bytes() == b"run".as_slice() && second.as_bytes() == b"calls".as_slice(),
-        _ => false,
+    if words.len() != 2 {
+        return false;
     }
+    let first = is_word(&words[0], "run");
+    let second = is_word(&words[1], "calls");
+    first && second
 }
 
 /// Carries out a command. The words are the program's arguments after its own name; so far `run calls` is accepted,

@@ -1,0 +1,36 @@
+-- The ways in which the top call ends, by what its parts did.
+use Rattle.std.proofs.Common.{◌≡◌, ℕ, ◌≤◌, List, [], length, Option, Some, None, refl, sym, ◌∙◌, inl, inr, subst, arith, ◌⊎◌}
+use Rattle.std.specs.Prelude.{IfSome}
+use Rattle.w32_base.specs.declared.entry.Entry.{Entry}
+use Rattle.w32_base.specs.declared.instr.Instr.{Instr}
+use Rattle.w32_base.specs.declared.setup.Setup.{Setup}
+use Rattle.cyg_io.specs.Counts.{RoseBy}
+use Rattle.cyg_io.specs.Source.{Draws}
+use Rattle.first_form.specs.OneProgram.{IsOneProgram}
+use Rattle.layer_spec.specs.FirstForm.{IsFirstForm}
+use Rattle.cyg_cli.specs.Top.{Outside, run_calls, Ends, Refused, RefusedInPart, Logged, LoggedInPart, NoMemory, Refuses, Runs, IsUnbuilt}
+use Rattle.cyg_cli.specs.TopParts.{IsRefusal, IsLogging}
+use Rattle.cyg_cli.proofs.Texts.{first_form_short}
+
+pub of_left : (P : List ℕ → Type 0) (o : Option (List ℕ)) (bytes : List ℕ) → IfSome o (λ left. bytes ≡ left) → P bytes → IfSome o P
+of_left P None bytes e p = tt
+of_left P (Some left) bytes e p = subst P e p
+
+-- more bytes than a script may have are no script
+pub too_long : (o now : Option (List ℕ)) (given given_now : ℕ) → Draws 1048577 o now given given_now → IfSome o IsUnbuilt
+too_long None now given given_now d = tt
+too_long (Some left) now given given_now d = λ budget code h. omega (arith, d.bytes.0, first_form_short left budget code h)
+
+pub refusal_ends : (words : List (List ℕ)) (before after : Outside) (status : ℕ) (entries : List Entry) → words ≡ run_calls → Refuses before after
+    → IsRefusal before.held after.held before.write_faults after.write_faults status entries → Ends words before after status entries
+refusal_ends words before after status entries w r (inl (s, app, e)) = Refused w r app s e
+refusal_ends words before after status entries w r (inr (s, app, rose, e)) = RefusedInPart w r app rose s e
+
+pub logging_ends : (words : List (List ℕ)) (before after : Outside) (status : ℕ) (entries : List Entry) (setup : Setup) (budget : ℕ) (code : List Instr)
+    → words ≡ run_calls → RoseBy 1 before.ends after.ends → IfSome before.left (λ text. IsFirstForm text budget code) → IsOneProgram setup budget code
+    → IsLogging setup before.held after.held before.write_faults after.write_faults status entries → Ends words before after status entries
+logging_ends words before after status entries setup budget code w ended text script (inr (s, same, e)) = NoMemory w same s e
+logging_ends words before after status entries setup budget code w ended text script (inl (end, run, inl (s, app, e))) =
+    Logged end w (record { budget = budget; code = code; setup = setup; ended = ended; text = text; script = script; run = run }) app s
+logging_ends words before after status entries setup budget code w ended text script (inl (end, run, inr (s, app, rose, e))) =
+    LoggedInPart end w (record { budget = budget; code = code; setup = setup; ended = ended; text = text; script = script; run = run }) app rose s
