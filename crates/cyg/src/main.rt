@@ -1,0 +1,70 @@
+//! The program: it reads a script on standard input and writes its log on standard output.
+#![tactic(auto)]
+
+use clap::{Arg, ArgAction, Command};
+use cyg_cli::{StdSink, StdSource, run_top};
+use std::alloc::{AllocError, Global};
+use std::env;
+use std::io::{self, ErrorKind};
+use std::process::ExitCode;
+use std::rt::Env;
+
+/// The words aren't accepted.
+const OTHER_WORDS: u8 = 2;
+
+/// Memory ran out.
+const NO_MEMORY: u8 = 7;
+
+fn main(rt: HostRuntime) -> ExitCode {
+    let status = run(&rt);
+    if status == OTHER_WORDS {
+        print_usage(&rt);
+    }
+    ExitCode::from(status)
+}
+
+// Carries out the command that the words name.
+fn run<R: Env + Input + Print + AllocGlobal>(rt: &R) -> u8 {
+    match words_of(rt) {
+        Ok(words) => {
+            let mut src = StdSource::new(rt.reader());
+            let mut sink = StdSink::new(io::writer(rt));
+            run_top(rt.alloc(), &words, &mut src, &mut sink).status.get()
+        }
+        Err(error) => {
+            if error.kind() == ErrorKind::OutOfMemory {
+                NO_MEMORY
+            } else {
+                OTHER_WORDS
+            }
+        }
+    }
+}
+
+// The words after the program's name. It fails where one of them isn't text.
+fn words_of<R: Env + AllocGlobal>(rt: &R) -> io::Result<Vec<String>> {
+    let mut words = Vec::new(rt.alloc());
+    for word in env::args(rt)?.skip(1) {
+        words.push(word)?;
+    }
+    Ok(words)
+}
+
+// Says which words are accepted. Where there is no memory for the text, nothing is printed.
+fn print_usage<R: Eprint + AllocGlobal>(rt: &R) {
+    if let Ok(text) = usage(rt.alloc()) {
+        let _ = eprint!(rt; "{text}");
+    }
+}
+
+fn usage(alloc: Global) -> Result<String, AllocError> {
+    let view = Arg::new(alloc, "calls").required(true).action(ArgAction::Set);
+    let run = Command::new(alloc, "run")
+        .about("reads a script on standard input and writes its log, by process")
+        .arg(view)?;
+    let mut command = Command::new(alloc, "cyg")
+        .about("runs process programs on a modelled Win32")
+        .after_help("The words are `run calls`.")
+        .subcommand(run)?;
+    command.render_help()
+}
