@@ -1,0 +1,5 @@
+//! Runs of whole scripts through the top call, over a source and a sink in memory.
+#![tactic(auto)]
+
+#[cfg(test)]
+mod tests;

@@ -1,0 +1,177 @@
+//! Whole scripts, their logs and statuses.
+
+use cyg_cli::{MemSink, MemSource, run_top};
+use std::alloc::{AllocError, AllocGlobal};
+use std::process::Abort;
+use std::test::Fail;
+
+// What one run of the top call came to.
+#[derive(Clone, Copy)]
+struct Ending {
+    status: u8,
+    read_faults: u64,
+    write_faults: u64,
+    entries: usize,
+}
+
+const RUN_CALLS: &[&str] = &["run", "calls"];
+
+const START: &[u8] = b"cygscript 1\nslots 1\nrows 1\n";
+const FIRST: &[u8] = b"budget 100000\nprogram main heap 0 stack 64\ngetpid\nkill 2 0\nexit 0\nschedule\nsettle\n";
+const FIRST_LOG: &[u8] = b"log calls\nhost 0 0\nget 2 pid 2\nkill 2 2 0 0\ndie 2 0 exit\ntty -\ndone quiet\n";
+
+// The bytes of two pieces.
+fn joined<R: AllocGlobal>(rt: &R, first: &[u8], second: &[u8]) -> Result<Vec<u8>, AllocError> {
+    let mut bytes = Vec::new(rt.alloc());
+    bytes.extend_from_slice(first)?;
+    bytes.extend_from_slice(second)?;
+    Ok(bytes)
+}
+
+// A sink with room for any log of these tests. It fails at the calls that are given.
+fn sink_that_fails<R: AllocGlobal>(rt: &R, bad_writes: &[u32]) -> Result<MemSink, Fail> {
+    let mut fails = Vec::new(rt.alloc());
+    fails.extend_from_slice(bad_writes)?;
+    Ok(MemSink::new(rt.alloc(), 4096, fails)?)
+}
+
+// Runs the words over a script. The source fails at the calls that are given.
+fn run_words<R: AllocGlobal>(rt: &R, words: &[&str], script: Vec<u8>, bad_reads: &[u32], sink: &mut MemSink) -> Result<Ending, AllocError> {
+    let mut list = Vec::new(rt.alloc());
+    for word in words {
+        list.push(String::from_str(rt.alloc(), word)?)?;
+    }
+    let mut fails = Vec::new(rt.alloc());
+    fails.extend_from_slice(bad_reads)?;
+    let mut src = MemSource::new(script, fails);
+    let answer = run_top(rt.alloc(), &list, &mut src, sink);
+    Ok(Ending {
+        status: answer.status.get(),
+        read_faults: src.faults(),
+        write_faults: sink.faults(),
+        entries: answer.journal.len(),
+    })
+}
+
+// Runs a script whose lines after the first three are given, and wants its status and its log.
+fn expect<R: AllocGlobal + Abort>(rt: &R, rest: &[u8], status: u8, log: &[u8]) -> Result<Ending, Fail> {
+    let mut sink = sink_that_fails(rt, &[])?;
+    let ending = run_words(rt, RUN_CALLS, joined(rt, START, rest)?, &[], &mut sink)?;
+    assert_eq!(rt; ending.status, status);
+    assert!(rt; sink.contents() == log);
+    assert_eq!(rt; ending.read_faults, 0);
+    assert_eq!(rt; ending.write_faults, 0);
+    Ok(ending)
+}
+
+#[test]
+fn first_script_is_run(rt: HostRuntime) -> Result<(), Fail> {
+    let ending = expect(&rt, FIRST, 0, FIRST_LOG)?;
+    assert_eq!(rt; ending.entries, 14);
+    Ok(())
+}
+
+#[test]
+fn kill_of_an_absent_process(rt: HostRuntime) -> Result<(), Fail> {
+    expect(
+        &rt,
+        b"budget 500000\nprogram main heap 0 stack 64\nkill 3 0\nexit 4\nschedule\nsettle\n",
+        0,
+        b"log calls\nhost 0 4\nkill 2 3 0 ESRCH\ndie 2 4 exit\ntty -\ndone quiet\n",
+    )?;
+    expect(
+        &rt,
+        b"budget 500000\nprogram main heap 0 stack 64\nkill 1 0\nkill 4001 0\nexit 255\nschedule\nsettle\n",
+        0,
+        b"log calls\nhost 0 255\nkill 2 1 0 ESRCH\nkill 2 4001 0 ESRCH\ndie 2 255 exit\ntty -\ndone quiet\n",
+    )?;
+    Ok(())
+}
+
+#[test]
+fn other_words_are_refused(rt: HostRuntime) -> Result<(), Fail> {
+    let refused: &[&[&str]] = &[&[], &["run"], &["run", "quick"], &["make", "0"], &["run", "calls", "calls"], &["--help"]];
+    for words in refused {
+        let mut sink = sink_that_fails(&rt, &[])?;
+        let ending = run_words(&rt, words, joined(&rt, START, FIRST)?, &[1], &mut sink)?;
+        assert_eq!(rt; ending.status, 2);
+        assert!(rt; sink.contents().is_empty());
+        assert_eq!(rt; ending.read_faults, 0);
+        assert_eq!(rt; ending.write_faults, 0);
+        assert_eq!(rt; ending.entries, 0);
+    }
+    Ok(())
+}
+
+#[test]
+fn source_that_fails(rt: HostRuntime) -> Result<(), Fail> {
+    let mut sink = sink_that_fails(&rt, &[])?;
+    let ending = run_words(&rt, RUN_CALLS, joined(&rt, START, FIRST)?, &[1], &mut sink)?;
+    assert_eq!(rt; ending.status, 4);
+    assert!(rt; sink.contents().is_empty());
+    assert_eq!(rt; ending.read_faults, 1);
+    assert_eq!(rt; ending.write_faults, 0);
+    Ok(())
+}
+
+#[test]
+fn sink_that_fails_at_each_call(rt: HostRuntime) -> Result<(), Fail> {
+    for call in 1..8 {
+        let mut sink = sink_that_fails(&rt, &[call])?;
+        let ending = run_words(&rt, RUN_CALLS, joined(&rt, START, FIRST)?, &[], &mut sink)?;
+        assert_eq!(rt; ending.status, 5);
+        assert_eq!(rt; ending.write_faults, 1);
+        let written = sink.contents();
+        assert!(rt; written.len() < FIRST_LOG.len());
+        assert!(rt; FIRST_LOG.starts_with(written));
+    }
+    let mut sink = sink_that_fails(&rt, &[8])?;
+    let ending = run_words(&rt, RUN_CALLS, joined(&rt, START, FIRST)?, &[], &mut sink)?;
+    assert_eq!(rt; ending.status, 0);
+    Ok(())
+}
+
+#[test]
+fn budgets_from_one_up(rt: HostRuntime) -> Result<(), Fail> {
+    for budget in 1..14u32 {
+        let text = format!(in rt.alloc(); "budget {budget}\nprogram main heap 0 stack 64\ngetpid\nkill 2 0\nexit 0\nschedule\nsettle\n")?;
+        let mut sink = sink_that_fails(&rt, &[])?;
+        let ending = run_words(&rt, RUN_CALLS, joined(&rt, START, text.as_bytes())?, &[], &mut sink)?;
+        assert_eq!(rt; ending.status, 6);
+        assert_eq!(rt; ending.entries, budget as usize);
+        assert!(rt; sink.contents().ends_with(b"tty -\ndone budget\n"));
+    }
+    expect(
+        &rt,
+        b"budget 14\nprogram main heap 0 stack 64\ngetpid\nkill 2 0\nexit 0\nschedule\nsettle\n",
+        0,
+        FIRST_LOG,
+    )?;
+    expect(
+        &rt,
+        b"budget 1\nprogram main heap 0 stack 64\ngetpid\nkill 2 0\nexit 0\nschedule\nsettle\n",
+        6,
+        b"log calls\ntty -\ndone budget\n",
+    )?;
+    Ok(())
+}
+
+#[test]
+fn texts_that_are_refused(rt: HostRuntime) -> Result<(), Fail> {
+    let refused: &[&[u8]] = &[
+        b"",
+        b"budget 0\nprogram main heap 0 stack 64\nexit 0\nschedule\nsettle\n",
+        b"budget 500001\nprogram main heap 0 stack 64\nexit 0\nschedule\nsettle\n",
+        b"budget 5\nprogram main heap 0 stack 64\ngetpid\nschedule\nsettle\n",
+        b"budget 5\nprogram main heap 0 stack 64\nexit 256\nschedule\nsettle\n",
+        b"budget 5\nprogram main heap 0 stack 64\nkill 2 9\nexit 0\nschedule\nsettle\n",
+        b"budget 5\nprogram main heap 0 stack 64\nfork\nexit 0\nschedule\nsettle\n",
+        b"budget 5\nprogram main heap 0 stack 64\nexit 0\nschedule\nsettle",
+        b"budget 5\nprogram main heap 0 stack 64\nexit 0\nschedule\nsettle\n\n",
+    ];
+    for rest in refused {
+        let ending = expect(&rt, rest, 3, b"fault 0 Unbuilt\n")?;
+        assert_eq!(rt; ending.entries, 0);
+    }
+    Ok(())
+}
