@@ -41,12 +41,12 @@ status_of Given = 0
 status_of Budget = 6
 
 -- the source was read to its end, or to one byte past the limit
-abbrev pub IsRead : Outside → Outside → Type 0
-IsRead before after = RoseBy 1 before.ends after.ends ⊎ RoseBy 1048577 before.given after.given
+abbrev pub IsRead : (ends ends_now given given_now : ℕ) → Type 0
+IsRead ends ends_now given given_now = RoseBy 1 ends ends_now ⊎ RoseBy 1048577 given given_now
 
 -- The text was read and is none of a script. Where the source tells its bytes, they are no script of the first form.
 pub record Refuses (before after : Outside) : Type 0 where
-  pub read : IsRead before after
+  pub read : IsRead before.ends after.ends before.given after.given
   pub text : IfSome before.left IsUnbuilt
 
 -- The text was read to its end and is a script of the first form, whose program was run.

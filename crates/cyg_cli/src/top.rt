@@ -4,7 +4,9 @@ ghost use Rattle.std.specs.Prelude.{◌≡◌, ◌≢◌, ◌<◌, ◌≤◌, []
 ghost use Rattle.std.specs.String.{string_bytes};
 ghost use Rattle.std.specs.List.{AllPass};
 ghost use Rattle.layer_spec.specs.LogText.{is_built_entry};
-ghost use Rattle.cyg_cli.specs.Top.{Ends, run_calls, status_of as status_number};
+ghost use Rattle.std.specs.Io.KnownBytes.{Appends};
+ghost use Rattle.cyg_io.specs.Counts.{Rose, RoseBy};
+ghost use Rattle.cyg_cli.specs.Top.{Ends, IsRead, IsUnbuilt, refusal, run_calls, status_of as status_number};
 ghost use Rattle.cyg_cli.specs.TopParts.{IsRefusal, IsLogging, IsLogOf};
 
 use crate::run::run;
@@ -85,8 +87,45 @@ fn are_accepted(words: &Vec<String>) -> bool
 }
 
 /// Carries out a command. The words are the program's arguments after its own name; so far `run calls` is accepted,
-/// and the source gives a script of the first form.
+/// and the source gives a script of the first form, of at most 1,048,576 bytes. It is run on the modelled Win32, and
+/// its log goes to the sink. A text that is no script of the first form is refused with the line `fault 0 Unbuilt`.
 pub fn run_top<S: Source, K: Sink>(
+    alloc: Global,
+    words: &Vec<String>,
+    src: &mut S,
+    sink: &mut K,
+) -> TopAnswer
+    // How it ended, with what was read, run and written.
+    ensures story { Ends (map string_bytes words.now.items)
+        (record { left = S.remaining src.old; read_faults = S.faults src.old; given = S.given src.old; ends = S.ends src.old; held = K.held sink.old; write_faults = K.faults sink.old })
+        (record { left = S.remaining src.new; read_faults = S.faults src.new; given = S.given src.new; ends = S.ends src.new; held = K.held sink.new; write_faults = K.faults sink.new })
+        result.status result.journal }
+
+    // 2 is the answer exactly where the words aren't accepted. Nothing is then read or written.
+    ensures other_words { (result.status ≡ 2) ↔ (map string_bytes words.now.items ≢ run_calls) }
+    ensures source_untouched { result.status ≡ 2 → (S.remaining src.new ≡ S.remaining src.old) × (S.faults src.new ≡ S.faults src.old)
+        × (S.given src.new ≡ S.given src.old) × (S.ends src.new ≡ S.ends src.old) }
+    ensures sink_untouched { result.status ≡ 2 → (K.held sink.new ≡ K.held sink.old) × (K.faults sink.new ≡ K.faults sink.old) }
+
+    // 3 comes where the text was read and is no script of the first form. The refusal is what was written.
+    ensures refused { result.status ≡ 3 → IfSome (S.remaining src.old) IsUnbuilt × Appends (K.held sink.old) (K.held sink.new) refusal }
+    ensures refused_after { result.status ≡ 3 → IsRead (S.ends src.old) (S.ends src.new) (S.given src.old) (S.given src.new) }
+    ensures only_scripts_run { IfSome (S.remaining src.old) (λ text. IsUnbuilt text → (result.status ≢ 0) × (result.status ≢ 6)) }
+
+    // 4 comes only where the source had a fault, and nothing is then written. 5 comes only where the sink had one. 7
+    // comes before the first directive.
+    ensures read_fault { result.status ≡ 4 → Rose (S.faults src.old) (S.faults src.new) × (K.held sink.new ≡ K.held sink.old) }
+    ensures write_fault { result.status ≡ 5 → Rose (K.faults sink.old) (K.faults sink.new) }
+    ensures no_memory { result.status ≡ 7 → (K.held sink.new ≡ K.held sink.old) × (result.journal ≡ []) }
+
+    // Where it ends with 0 or 6, the source has answered its end.
+    ensures whole_run { result.status ≡ 0 → RoseBy 1 (S.ends src.old) (S.ends src.new) }
+    ensures part_run { result.status ≡ 6 → RoseBy 1 (S.ends src.old) (S.ends src.new) }
+{
+    carry_out(alloc, words, src, sink)
+}
+
+fn carry_out<S: Source, K: Sink>(
     alloc: Global,
     words: &Vec<String>,
     src: &mut S,
