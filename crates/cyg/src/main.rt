@@ -29,7 +29,9 @@ fn run<R: Env + Input + Print + AllocGlobal>(rt: &R) -> u8 {
         Ok(words) => {
             let mut src = StdSource::new(rt.reader());
             let mut sink = StdSink::new(io::writer(rt));
-            run_top(rt.alloc(), &words, &mut src, &mut sink).status.get()
+            run_top(rt.alloc(), &words, &mut src, &mut sink)
+                .status
+                .get()
         }
         Err(error) => {
             if error.kind() == ErrorKind::OutOfMemory {
@@ -58,7 +60,9 @@ fn print_usage<R: Eprint + AllocGlobal>(rt: &R) {
 }
 
 fn usage(alloc: Global) -> Result<String, AllocError> {
-    let view = Arg::new(alloc, "calls").required(true).action(ArgAction::Set);
+    let view = Arg::new(alloc, "calls")
+        .required(true)
+        .action(ArgAction::Set);
     let run = Command::new(alloc, "run")
         .about("reads a script on standard input and writes its log, by process")
         .arg(view)?;

@@ -102,8 +102,8 @@ step_built s slot t part next setup called answer event new d =
 
 drives_built : (b : Bool) (setup : Setup) (old : World) (slot t : ℕ) (called : Call) (answer : Reply) (event : Option Event) (new : World)
     → MatchBool b
-        (DrivenStep Goes call_of old.machine slot t old.starter setup called answer event new.starter new.machine × (new.main ≡ old.main))
-        (DrivenStep Goes call_of old.machine slot t old.main setup called answer event new.main new.machine × (new.starter ≡ old.starter))
+    (DrivenStep Goes call_of old.machine slot t old.starter setup called answer event new.starter new.machine × (new.main ≡ old.main))
+    (DrivenStep Goes call_of old.machine slot t old.main setup called answer event new.main new.machine × (new.starter ≡ old.starter))
     → is_built_entry event ≡ true
 drives_built true setup old slot t called answer event new d = step_built old.machine slot t old.starter new.starter setup called answer event new.machine d.0
 drives_built false setup old slot t called answer event new d = step_built old.machine slot t old.main new.main setup called answer event new.machine d.0

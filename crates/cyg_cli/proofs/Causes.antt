@@ -11,12 +11,12 @@ IsNotRun status text = IsUnbuilt text → (status ≢ 0) × (status ≢ 6)
 
 other_status : (left : Option (List ℕ)) (status : ℕ) → status ≢ 0 → status ≢ 6 → IfSome left (IsNotRun status)
 other_status None status s0 s6 = tt
-other_status (Some left) status s0 s6 = λ _. (s0 , s6)
+other_status (Some left) status s0 s6 = λ _. (s0, s6)
 
 script_run : (status : ℕ) (left : Option (List ℕ)) (budget : ℕ) (code : List Instr) → IfSome left (λ text. IsFirstForm text budget code)
     → IfSome left (IsNotRun status)
 script_run status None budget code h = tt
-script_run status (Some left) budget code h = λ unbuilt. ((λ _. unbuilt budget code h) , (λ _. unbuilt budget code h))
+script_run status (Some left) budget code h = λ unbuilt. ((λ _. unbuilt budget code h), (λ _. unbuilt budget code h))
 
 pub only_scripts : (words : List (List ℕ)) (before after : Outside) (status : ℕ) (entries : List Entry) → Ends words before after status entries
     → IfSome before.left (λ text. IsUnbuilt text → (status ≢ 0) × (status ≢ 6))

@@ -45,9 +45,9 @@ pub IsSoFar-turn : (setup : Setup) (budget counter : ℕ) (r : Recorded) (w : Wo
     → IsSoFar setup budget (counter + 1) after new (slot, t)
 IsSoFar-turn setup budget counter r w last slot t called answer event after new so_far ready drives grown room =
     let turn : RoundTurn setup w last (turn_entry slot t called answer event) new (slot, t) =
-        record { ready = ready; turn = record { called = called; answer = answer; event = event; entry = refl; drives = drives } } in
+    record { ready = ready; turn = record { called = called; answer = answer; event = event; entry = refl; drives = drives } } in
     let longer : DrivenRun setup so_far.opening (64, 2) (r.entries ++ turn_entry slot t called answer event ∷ []) new (slot, t) =
-        DrivenRun-append setup so_far.opening (64, 2) r.entries w last _ new (slot, t) so_far.run turn in
+    DrivenRun-append setup so_far.opening (64, 2) r.entries w last _ new (slot, t) so_far.run turn in
     record {
       opening = so_far.opening;
       opens = so_far.opens;

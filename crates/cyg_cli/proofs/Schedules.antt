@@ -54,8 +54,8 @@ driven_turn s slot t part next setup called answer event new d = record {
 
 drives_turn : (b : Bool) (setup : Setup) (old : World) (slot t : ℕ) (called : Call) (answer : Reply) (event : Option Event) (new : World)
     → MatchBool b
-        (DrivenStep Goes call_of old.machine slot t old.starter setup called answer event new.starter new.machine × (new.main ≡ old.main))
-        (DrivenStep Goes call_of old.machine slot t old.main setup called answer event new.main new.machine × (new.starter ≡ old.starter))
+    (DrivenStep Goes call_of old.machine slot t old.starter setup called answer event new.starter new.machine × (new.main ≡ old.main))
+    (DrivenStep Goes call_of old.machine slot t old.main setup called answer event new.main new.machine × (new.starter ≡ old.starter))
     → ReadyTurn old.machine slot t (Some called) (Step answer) new.machine
 drives_turn true setup old slot t called answer event new d = driven_turn old.machine slot t old.starter new.starter setup called answer event new.machine d.0
 drives_turn false setup old slot t called answer event new d = driven_turn old.machine slot t old.main new.main setup called answer event new.machine d.0
@@ -68,9 +68,9 @@ round_step : (setup : Setup) (old : World) (last : ℕ × ℕ) (e : Entry) (new 
 round_step setup old last e new next r =
     let is : Entry = turn_entry next.0 next.1 r.turn.called r.turn.answer r.turn.event in
     let turn : ReadyTurn old.machine next.0 next.1 (Some r.turn.called) (Step r.turn.answer) new.machine =
-        drives_turn (nat_eq next.0 0) setup old next.0 next.1 r.turn.called r.turn.answer r.turn.event new r.turn.drives in
+    drives_turn (nat_eq next.0 0) setup old next.0 next.1 r.turn.called r.turn.answer r.turn.event new r.turn.drives in
     let P : Bool → Type 0 = λ b. MatchBool b (ReadyTurn old.machine next.0 next.1 (Some r.turn.called) (Step r.turn.answer) new.machine)
-        ((Some r.turn.called ≡ None) × (Step r.turn.answer ≡ Idle) × (new.machine ≡ old.machine)) in
+    ((Some r.turn.called ≡ None) × (Step r.turn.answer ≡ Idle) × (new.machine ≡ old.machine)) in
     subst (λ x. DirectiveStep old.machine x new.machine) (sym r.turn.entry) (subst P (sym r.ready.ready) turn)
 
 round_given : (setup : Setup) (old : World) (last : ℕ × ℕ) (e : Entry) (new : World) (next : ℕ × ℕ) → RoundTurn setup old last e new next
@@ -86,9 +86,13 @@ round_given setup old last e new next r = inl (record {
 pub driven_follows : (setup : Setup) (w : World) (last : ℕ × ℕ) (es : List Entry) (new : World) (next : ℕ × ℕ) → DrivenRun setup w last es new next
     → ScheduledRun w.machine (round_at last) es new.machine (round_at next)
 driven_follows setup w last [] new next run = (ap (λ (x : World). x.machine) run.0, ap round_at run.1)
-driven_follows setup w last (e ∷ es) new next run =
-    (run.0.machine, round_at run.1, round_given setup w last e run.0 run.1 run.2, round_step setup w last e run.0 run.1 run.2,
-        driven_follows setup run.0 run.1 es new next run.3)
+driven_follows setup w last (e ∷ es) new next run = (
+  run.0.machine,
+  round_at run.1,
+  round_given setup w last e run.0 run.1 run.2,
+  round_step setup w last e run.0 run.1 run.2,
+  driven_follows setup run.0 run.1 es new next run.3,
+)
 
 -- what a run to the end is
 pub run_of : (setup : Setup) (entries : List Entry) (end : End) → RunsToTheEnd setup entries end → IsRunOf setup entries end

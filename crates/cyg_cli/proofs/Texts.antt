@@ -39,8 +39,12 @@ code_short [] e = cc
 code_short (i ∷ []) e =
     omega (arith, text_of-cons (instr_line i) last_lines, line_short i (and_left (is_first_form_instr i) (is_exit i) e))
 code_short (i ∷ j ∷ is) e =
-    omega (arith, text_of-cons (instr_line i) (map instr_line (j ∷ is) ++ last_lines), line_short i (and_left (is_first_form_instr i) (is_first_form_code (j ∷ is)) e),
-        code_short (j ∷ is) (and_right (is_first_form_instr i) (is_first_form_code (j ∷ is)) e))
+    omega (
+      arith,
+      text_of-cons (instr_line i) (map instr_line (j ∷ is) ++ last_lines),
+      line_short i (and_left (is_first_form_instr i) (is_first_form_code (j ∷ is)) e),
+      code_short (j ∷ is) (and_right (is_first_form_instr i) (is_first_form_code (j ∷ is)) e),
+    )
 
 -- the whole text
 pub first_form_short : (text : List ℕ) (budget : ℕ) (code : List Instr) → IsFirstForm text budget code → length text ≤ 1048576
@@ -48,8 +52,17 @@ first_form_short text budget code h =
     let rest : List (List ℕ) = map instr_line code ++ last_lines in
     let program : List ℕ = codes "program main heap 0 stack 64" in
     let number : List ℕ = codes "budget " ++ decimal budget in
-    omega (arith, ap length h.spelled, h.code_in_range, h.budget_in_range.1, code_short code h.instructions,
-        text_of-cons program rest, text_of-cons number (program ∷ rest), text_of-cons (codes "rows 1") (number ∷ program ∷ rest),
-        text_of-cons (codes "slots 1") (codes "rows 1" ∷ number ∷ program ∷ rest),
-        text_of-cons (codes "cygscript 1") (codes "slots 1" ∷ codes "rows 1" ∷ number ∷ program ∷ rest),
-        length-append (codes "budget ") (decimal budget), digits_few budget (omega (arith, h.budget_in_range.1)))
+    omega (
+      arith,
+      ap length h.spelled,
+      h.code_in_range,
+      h.budget_in_range.1,
+      code_short code h.instructions,
+      text_of-cons program rest,
+      text_of-cons number (program ∷ rest),
+      text_of-cons (codes "rows 1") (number ∷ program ∷ rest),
+      text_of-cons (codes "slots 1") (codes "rows 1" ∷ number ∷ program ∷ rest),
+      text_of-cons (codes "cygscript 1") (codes "slots 1" ∷ codes "rows 1" ∷ number ∷ program ∷ rest),
+      length-append (codes "budget ") (decimal budget),
+      digits_few budget (omega (arith, h.budget_in_range.1)),
+    )

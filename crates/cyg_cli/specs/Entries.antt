@@ -14,4 +14,3 @@ turn_entry slot t called answer event = record {
   outcome = outcome.Step answer;
   event = event;
 }
-

@@ -73,8 +73,13 @@ rests step.Rest r own = record { rank = λ e. let never : true ≡ false = e in 
 length-with_word : (bytes : List ℕ) (place n : ℕ) → place + 4 ≤ length bytes → length (with_word bytes place n) ≡ length bytes
 unfolding with_word
 length-with_word bytes place n within =
-    omega (arith, length-append (take place bytes ++ to_le_bytes w32 n) (drop (place + 4) bytes), length-append (take place bytes) (to_le_bytes w32 n),
-        length-take-le place bytes (omega arith), length-drop (place + 4) bytes)
+    omega (
+      arith,
+      length-append (take place bytes ++ to_le_bytes w32 n) (drop (place + 4) bytes),
+      length-append (take place bytes) (to_le_bytes w32 n),
+      length-take-le place bytes (omega arith),
+      length-drop (place + 4) bytes,
+    )
 
 and_left : (a b : Bool) → (a && b) ≡ true → a ≡ true
 and_left true b e = refl
@@ -97,6 +102,7 @@ tells : (s : Step) (r : Reply) (own : Own) (z : ℤ) (e : Event) → is_progress
 tells s r own z e progress = by_if (IsFair s r own) (can_take own) _ _
     (λ can. record { rank = λ keeps. let never : true ≡ false = ap (λ b. (b || is_wait (posted_at s)) || is_lost_exchange (posted_at s) r) (sym progress) ∙ keeps in cc; lengths = answered_lengths own z can })
     (λ _. rests s r own)
+
 fair_target : (s : Step) (r : Reply) (own : Own) (n : ℕ) → 10 < rank_of s → IsFair s r own (finds_target own n)
 fair_target s r own n high = by_if (IsFair s r own) (nat_le 2 n && nat_le n 4001) _ _
     (λ _. falls s (step.Target n) r own high) (λ _. tells s r own (negsuc 2) _ refl)
@@ -141,16 +147,16 @@ main_fair code (step.Sealing status) own w = by_if (IsFair (step.Sealing status)
 main_fair code (step.Seal status main) own w = by_if (IsFair (step.Seal status main) (reply.Word w) own) (nat_eq w main) _ _
     (λ _. record { rank = λ keeps. let never : true ≡ false = keeps in cc; lengths = same_lengths own })
     (λ e. by_if (IsFair (step.Seal status main) (reply.Word w) own) (is_running_word w) _ _
-        (λ _. record { rank = λ keeps. absurd (lost 1 1 main (sealed_word main status) w e keeps); lengths = same_lengths own })
-        (λ _. rests (step.Seal status main) (reply.Word w) own))
+    (λ _. record { rank = λ keeps. absurd (lost 1 1 main (sealed_word main status) w e keeps); lengths = same_lengths own })
+    (λ _. rests (step.Seal status main) (reply.Word w) own))
 main_fair code (step.Parent status main) own w = by_if (IsFair (step.Parent status main) (reply.Word w) own) (nat_eq (parent_of w) 1) _ _
     (λ _. falls (step.Parent status main) (step.Gather status main) (reply.Word w) own (omega arith))
     (λ _. falls (step.Parent status main) (step.Leave status) (reply.Word w) own (omega arith))
 main_fair code (step.Gather status main) own w = by_if (IsFair (step.Gather status main) (reply.Word w) own) (nat_eq w main) _ _
     (λ _. record { rank = λ keeps. let never : true ≡ false = keeps in cc; lengths = same_lengths own })
     (λ e. by_if (IsFair (step.Gather status main) (reply.Word w) own) (is_zombie_word w) _ _
-        (λ _. record { rank = λ keeps. absurd (lost 1 1 main gone_word w e keeps); lengths = same_lengths own })
-        (λ _. falls (step.Gather status main) (step.Leave status) (reply.Word w) own (omega arith)))
+    (λ _. record { rank = λ keeps. absurd (lost 1 1 main gone_word w e keeps); lengths = same_lengths own })
+    (λ _. falls (step.Gather status main) (step.Leave status) (reply.Word w) own (omega arith)))
 main_fair code (step.Leave status) own w = rests (step.Leave status) (reply.Word w) own
 main_fair code step.Waiting own w = rests step.Waiting (reply.Word w) own
 main_fair code step.Asking own w = rests step.Asking (reply.Word w) own

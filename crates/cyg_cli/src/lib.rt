@@ -8,5 +8,8 @@ mod run;
 mod top;
 mod world;
 
-pub use cyg_io::{CleanSink, CleanSource, MemSink, MemSource, ReadFailed, Sink, Source, StdSink, StdSource, WriteFailed};
+pub use cyg_io::{
+    CleanSink, CleanSource, MemSink, MemSource, ReadFailed, Sink, Source, StdSink, StdSource,
+    WriteFailed,
+};
 pub use top::{Status, TopAnswer, run_top};

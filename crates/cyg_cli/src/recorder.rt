@@ -1,7 +1,6 @@
 //! The entries of a run while it goes on, with the room that was taken for them.
 
 ghost use Rattle.std.specs.Prelude.{◌≡◌, ◌+◌, ◌≤◌, ◌<◌, [], ◌∷◌, ◌++◌, length, IfOk};
-
 ghost use Rattle.cyg_cli.specs.Entries.{turn_entry};
 
 use std::alloc::{AllocError, Global};
@@ -34,7 +33,14 @@ impl Recorder {
     }
 
     /// Adds the entry of a turn at the end, without taking memory.
-    pub fn push(&mut self, slot: Slot, thread: ThreadNo, call: Call, reply: Reply, event: Option<Event>)
+    pub fn push(
+        &mut self,
+        slot: Slot,
+        thread: ThreadNo,
+        call: Call,
+        reply: Reply,
+        event: Option<Event>,
+    )
         requires { length self.old.entries < self.old.room }
         ensures entries { self.new.entries ≡ self.old.entries ++ turn_entry slot thread call reply event ∷ [] }
         ensures room { self.old.room ≤ self.new.room }

@@ -5,7 +5,9 @@ ghost use Rattle.layer_spec.specs.Rows as words;
 
 /// The place of the first image's row in the section: its main word, its group word and its exit word.
 pub const FIRST_MAIN: u32 = 1;
+
 pub const FIRST_GROUP: u32 = 2;
+
 pub const FIRST_EXIT: u32 = 3;
 
 /// The word of a row that no process will use again.

@@ -48,7 +48,11 @@ pub fn run(alloc: Global, setup: &Setup) -> Result<Ran, AllocError>
 fn end_of(machine: &Machine) -> End
     ensures { (n : _) → EndsBy n n machine.now (Settle ∷ []) result }
 {
-    if machine.quiet() { End::Quiet } else { End::Budget }
+    if machine.quiet() {
+        End::Quiet
+    } else {
+        End::Budget
+    }
 }
 
 fn open(alloc: Global, setup: &Setup) -> Result<World, AllocError>

@@ -17,8 +17,12 @@ struct Ending {
 const RUN_CALLS: &[&str] = &["run", "calls"];
 
 const START: &[u8] = b"cygscript 1\nslots 1\nrows 1\n";
-const FIRST: &[u8] = b"budget 100000\nprogram main heap 0 stack 64\ngetpid\nkill 2 0\nexit 0\nschedule\nsettle\n";
-const FIRST_LOG: &[u8] = b"log calls\nhost 0 0\nget 2 pid 2\nkill 2 2 0 0\ndie 2 0 exit\ntty -\ndone quiet\n";
+
+const FIRST: &[u8] =
+    b"budget 100000\nprogram main heap 0 stack 64\ngetpid\nkill 2 0\nexit 0\nschedule\nsettle\n";
+
+const FIRST_LOG: &[u8] =
+    b"log calls\nhost 0 0\nget 2 pid 2\nkill 2 2 0 0\ndie 2 0 exit\ntty -\ndone quiet\n";
 
 // The bytes of two pieces.
 fn joined<R: AllocGlobal>(rt: &R, first: &[u8], second: &[u8]) -> Result<Vec<u8>, AllocError> {
@@ -36,7 +40,13 @@ fn sink_that_fails<R: AllocGlobal>(rt: &R, bad_writes: &[u32]) -> Result<MemSink
 }
 
 // Runs the words over a script. The source fails at the calls that are given.
-fn run_words<R: AllocGlobal>(rt: &R, words: &[&str], script: Vec<u8>, bad_reads: &[u32], sink: &mut MemSink) -> Result<Ending, AllocError> {
+fn run_words<R: AllocGlobal>(
+    rt: &R,
+    words: &[&str],
+    script: Vec<u8>,
+    bad_reads: &[u32],
+    sink: &mut MemSink,
+) -> Result<Ending, AllocError> {
     let mut list = Vec::new(rt.alloc());
     for word in words {
         list.push(String::from_str(rt.alloc(), word)?)?;
@@ -54,7 +64,12 @@ fn run_words<R: AllocGlobal>(rt: &R, words: &[&str], script: Vec<u8>, bad_reads:
 }
 
 // Runs a script whose lines after the first three are given, and wants its status and its log.
-fn expect<R: AllocGlobal + Abort>(rt: &R, rest: &[u8], status: u8, log: &[u8]) -> Result<Ending, Fail> {
+fn expect<R: AllocGlobal + Abort>(
+    rt: &R,
+    rest: &[u8],
+    status: u8,
+    log: &[u8],
+) -> Result<Ending, Fail> {
     let mut sink = sink_that_fails(rt, &[])?;
     let ending = run_words(rt, RUN_CALLS, joined(rt, START, rest)?, &[], &mut sink)?;
     assert_eq!(rt; ending.status, status);
@@ -90,7 +105,14 @@ fn kill_of_an_absent_process(rt: HostRuntime) -> Result<(), Fail> {
 
 #[test]
 fn other_words_are_refused(rt: HostRuntime) -> Result<(), Fail> {
-    let refused: &[&[&str]] = &[&[], &["run"], &["run", "quick"], &["make", "0"], &["run", "calls", "calls"], &["--help"]];
+    let refused: &[&[&str]] = &[
+        &[],
+        &["run"],
+        &["run", "quick"],
+        &["make", "0"],
+        &["run", "calls", "calls"],
+        &["--help"],
+    ];
     for words in refused {
         let mut sink = sink_that_fails(&rt, &[])?;
         let ending = run_words(&rt, words, joined(&rt, START, FIRST)?, &[1], &mut sink)?;
@@ -134,9 +156,17 @@ fn sink_that_fails_at_each_call(rt: HostRuntime) -> Result<(), Fail> {
 #[test]
 fn budgets_from_one_up(rt: HostRuntime) -> Result<(), Fail> {
     for budget in 1..14u32 {
-        let text = format!(in rt.alloc(); "budget {budget}\nprogram main heap 0 stack 64\ngetpid\nkill 2 0\nexit 0\nschedule\nsettle\n")?;
+        let text = format!(in rt.alloc();
+            "budget {budget}\nprogram main heap 0 stack 64\ngetpid\nkill 2 0\nexit 0\nschedule\nsettle\n"
+        )?;
         let mut sink = sink_that_fails(&rt, &[])?;
-        let ending = run_words(&rt, RUN_CALLS, joined(&rt, START, text.as_bytes())?, &[], &mut sink)?;
+        let ending = run_words(
+            &rt,
+            RUN_CALLS,
+            joined(&rt, START, text.as_bytes())?,
+            &[],
+            &mut sink,
+        )?;
         assert_eq!(rt; ending.status, 6);
         assert_eq!(rt; ending.entries, budget as usize);
         assert!(rt; sink.contents().ends_with(b"tty -\ndone budget\n"));

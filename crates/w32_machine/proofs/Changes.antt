@@ -1,6 +1,6 @@
 -- What the machine's methods do to the state that its parts stand for.
-use Rattle.std.proofs.Common.{◌≡◌, ◌≤◌, ℕ, ◌+◌, Bool, true, false, cond, ◌&&◌, ◌||◌, nat_eq, List, [], ◌∷◌, Option, Some, None, refl, sym, ◌∙◌, ap, inl, inr, ◌⊎◌, zero, suc, arith, length, subst}
-use Rattle.std.proofs.lemmas.Bool.{eqb-true, ne_eqb}
+use Rattle.std.proofs.Common.{◌≡◌, ◌≤◌, ℕ, Bool, true, false, cond, ◌&&◌, ◌||◌, nat_eq, List, refl, sym, ◌∙◌, inl, inr, ◌⊎◌, arith, length, subst}
+use Rattle.std.proofs.lemmas.Bool.{eqb-true}
 use Rattle.std.proofs.lemmas.List.{length-set}
 use Rattle.std.proofs.Math.Bool.{or-false}
 use Rattle.std.proofs.Math.Nat.{le_refl}
@@ -9,17 +9,16 @@ use Rattle.w32_base.specs.declared.call.Call.{Call}
 use Rattle.w32_base.specs.declared.call.Call.TheVariants as call
 use Rattle.w32_base.specs.declared.own.Own.{Own}
 use Rattle.win32_spec.specs.Objects.{exchanged}
-use Rattle.win32_spec.specs.State.{Process, Thread, Win32State}
-use Rattle.win32_spec.specs.Lookup.{process_in, with_posted, with_own, with_end}
+use Rattle.win32_spec.specs.State.{Win32State}
 use Rattle.w32_base.specs.declared.call.Reply.{Reply}
 use Rattle.win32_spec.specs.Ready.{is_ready, IsQuiet, IsNextReady, distance}
 use Rattle.w32_machine.specs.Contract.{OnlyTwo}
 use Rattle.win32_spec.specs.Call.{is_built}
-use Rattle.win32_spec.specs.Run.{CarriesOut, PostedStep, IsThread, Posts, has_thread}
+use Rattle.win32_spec.specs.Run.{CarriesOut, PostedStep, IsThread}
 use Rattle.w32_machine.specs.declared.seat.SeatLife.{SeatLife}
 use Rattle.w32_machine.specs.declared.seat.SeatLife.TheVariants as life
 use Rattle.w32_machine.specs.View.{state_of, host_process, layer_process, starter_thread, main_thread}
-use Rattle.w32_machine.specs.Turns.{host_may_go, host_reply, layer_may_go, layer_reply, words_after, life_after, seats_ready, seat_alive, host_is_ready, layer_is_ready}
+use Rattle.w32_machine.specs.Turns.{host_may_go, host_reply, layer_reply, words_after, life_after, seats_ready, host_is_ready, layer_is_ready}
 use Rattle.w32_machine.proofs.Readiness.{is_ready-state_of}
 use Rattle.w32_machine.proofs.CallSteps.{host_step, layer_step}
 
@@ -57,7 +56,7 @@ host_lives words (life.Ended d) hp ho layer lp lo ready =
 pub host_posted : (words : List ℕ) (hp : Call) (ho : Own) (layer : SeatLife) (lp : Call) (lo : Own)
     → is_built hp ≡ true → is_ready (state_of words life.Alive hp ho layer lp lo) 0 1 ≡ true
     → PostedStep (state_of words life.Alive hp ho layer lp lo) 0 1 (host_process hp ho) (starter_thread hp) (host_reply words layer hp)
-        (state_of (words_after words hp) (life_after hp) hp ho layer lp lo)
+    (state_of (words_after words hp) (life_after hp) hp ho layer lp lo)
 host_posted words hp ho layer lp lo built ready = record {
   thread = host_thread words hp ho layer lp lo;
   step = host_step words hp ho layer lp lo (host_may words hp ho layer lp lo ready) built;
@@ -86,7 +85,7 @@ layer_lives words host hp ho (life.Ended c) lp lo ready =
 pub layer_posted : (words : List ℕ) (host : SeatLife) (hp : Call) (ho : Own) (lp : Call) (lo : Own)
     → is_built lp ≡ true → is_ready (state_of words host hp ho life.Alive lp lo) 1 0 ≡ true
     → PostedStep (state_of words host hp ho life.Alive lp lo) 1 0 (layer_process lp lo) (main_thread lp) (layer_reply words lp)
-        (state_of (words_after words lp) host hp ho (life_after lp) lp lo)
+    (state_of (words_after words lp) host hp ho (life_after lp) lp lo)
 layer_posted words host hp ho lp lo built ready = record {
   thread = layer_thread words host hp ho lp lo;
   step = layer_step words host hp ho lp lo (sym (is_ready-state_of words host hp ho life.Alive lp lo 1 0) ∙ ready) built;
@@ -149,6 +148,7 @@ quiet_with_none s two host layer slot t = by_test (is_ready s slot t) refl
     at : ((slot ≡ 0) × (t ≡ 1)) ⊎ ((slot ≡ 1) × (t ≡ 0)) → is_ready s slot t ≡ false
     at (inl (e, f)) = rw (e, f) host
     at (inr (e, f)) = rw (e, f) layer
+
     by_test : (b : Bool) → is_ready s slot t ≡ b → is_ready s slot t ≡ false
     by_test false e = e
     by_test true e = at (two slot t e)
@@ -159,10 +159,10 @@ next_host s last_slot last_thread two host nearer = record {
   ready = host;
   first = λ slot t r. at slot t r (two slot t r);
 } where
-    at : (slot t : ℕ) → is_ready s slot t ≡ true → ((slot ≡ 0) × (t ≡ 1)) ⊎ ((slot ≡ 1) × (t ≡ 0))
-        → distance last_slot last_thread 0 1 ≤ distance last_slot last_thread slot t
-    at slot t r (inl (e, f)) = rw (e, f) (le_refl _)
-    at slot t r (inr (e, f)) = let is : is_ready s 1 0 ≡ true = rw (e, f) at r in rw (e, f) (nearer is)
+  at : (slot t : ℕ) → is_ready s slot t ≡ true → ((slot ≡ 0) × (t ≡ 1)) ⊎ ((slot ≡ 1) × (t ≡ 0))
+      → distance last_slot last_thread 0 1 ≤ distance last_slot last_thread slot t
+  at slot t r (inl (e, f)) = rw (e, f) (le_refl _)
+  at slot t r (inr (e, f)) = let is : is_ready s 1 0 ≡ true = rw (e, f) at r in rw (e, f) (nearer is)
 
 pub next_layer : (s : Win32State) (last_slot last_thread : ℕ) → OnlyTwo s → is_ready s 1 0 ≡ true
     → (is_ready s 0 1 ≡ true → distance last_slot last_thread 1 0 ≤ distance last_slot last_thread 0 1) → IsNextReady s last_slot last_thread 1 0
@@ -170,10 +170,10 @@ next_layer s last_slot last_thread two layer nearer = record {
   ready = layer;
   first = λ slot t r. at slot t r (two slot t r);
 } where
-    at : (slot t : ℕ) → is_ready s slot t ≡ true → ((slot ≡ 0) × (t ≡ 1)) ⊎ ((slot ≡ 1) × (t ≡ 0))
-        → distance last_slot last_thread 1 0 ≤ distance last_slot last_thread slot t
-    at slot t r (inr (e, f)) = rw (e, f) (le_refl _)
-    at slot t r (inl (e, f)) = let is : is_ready s 0 1 ≡ true = rw (e, f) at r in rw (e, f) (nearer is)
+  at : (slot t : ℕ) → is_ready s slot t ≡ true → ((slot ≡ 0) × (t ≡ 1)) ⊎ ((slot ≡ 1) × (t ≡ 0))
+      → distance last_slot last_thread 1 0 ≤ distance last_slot last_thread slot t
+  at slot t r (inr (e, f)) = rw (e, f) (le_refl _)
+  at slot t r (inl (e, f)) = let is : is_ready s 0 1 ≡ true = rw (e, f) at r in rw (e, f) (nearer is)
 
 pub is_ready-host : (words : List ℕ) (host : SeatLife) (hp : Call) (ho : Own) (layer : SeatLife) (lp : Call) (lo : Own)
     → is_ready (state_of words host hp ho layer lp lo) 0 1 ≡ host_is_ready host hp layer

@@ -1,13 +1,11 @@
 -- A turn with a part is a step, and the part goes on over its own process's bytes alone.
-use Rattle.std.proofs.Common.{◌≡◌, ℕ, Bool, true, false, List, [], ◌∷◌, Option, Some, None, refl, sym, ◌∙◌, ap, subst}
-use Rattle.std.specs.Prelude.{MatchBool}
+use Rattle.std.proofs.Common.{◌≡◌, ℕ, true, false, List, None, refl, sym, ◌∙◌, ap, subst}
 use Rattle.w32_base.specs.declared.call.Call.{Call}
 use Rattle.w32_base.specs.declared.call.Reply.{Reply}
-use Rattle.w32_base.specs.declared.event.Event.{Event}
 use Rattle.w32_base.specs.declared.own.Own.{Own}
 use Rattle.w32_base.specs.declared.setup.Setup.{Setup}
 use Rattle.w32_base.specs.declared.part.After.{After}
-use Rattle.win32_spec.specs.State.{Process, Win32State}
+use Rattle.win32_spec.specs.State.{Win32State}
 use Rattle.win32_spec.specs.Lookup.{process_of, with_posted, with_own}
 use Rattle.win32_spec.specs.Run.{PostedStep, is_live, memory_of}
 use Rattle.win32_spec.specs.Ready.{is_ready}
@@ -115,7 +113,7 @@ pub host_goes_on : {P : Type 0} (goes : P → Own → Setup → Reply → P → 
     → DrivenStep goes posted_of s 0 1 part setup hp reply answer.event part' (state_of next after posted own layer lp lo)
 host_goes_on goes posted_of s words host hp ho layer lp lo part setup reply next after part' own answer posted e built ready r w l lives_on went p =
     let P : Win32State → Type 0 = λ x. is_ready x 0 1 ≡ true
-        → DrivenStep goes posted_of x 0 1 part setup hp reply answer.event part' (state_of next after posted own layer lp lo) in
+    → DrivenStep goes posted_of x 0 1 part setup hp reply answer.event part' (state_of next after posted own layer lp lo) in
     subst P e (λ go. at go (host_lives words host hp ho layer lp lo go)) ready
   where
     at : is_ready (state_of words host hp ho layer lp lo) 0 1 ≡ true → host ≡ life.Alive
@@ -126,12 +124,12 @@ host_goes_on goes posted_of s words host hp ho layer lp lo part setup reply next
         let on_too : life_after hp ≡ life.Alive = sym l ∙ on in
         let mid : Win32State = state_of (words_after words hp) life.Alive hp ho layer lp lo in
         let carried : PostedStep (state_of words life.Alive hp ho layer lp lo) 0 1 (host_process hp ho) (starter_thread hp) (host_reply words layer hp) mid =
-            subst (λ x. PostedStep (state_of words life.Alive hp ho layer lp lo) 0 1 (host_process hp ho) (starter_thread hp) (host_reply words layer hp)
-                (state_of (words_after words hp) x hp ho layer lp lo)) on_too (host_posted words hp ho layer lp lo built alive) in
+        subst (λ x. PostedStep (state_of words life.Alive hp ho layer lp lo) 0 1 (host_process hp ho) (starter_thread hp) (host_reply words layer hp)
+        (state_of (words_after words hp) x hp ho layer lp lo)) on_too (host_posted words hp ho layer lp lo built alive) in
         let acts : state_of next after posted own layer lp lo ≡ with_posted (with_own mid 1 own) 1 1 (posted_of part') =
-            rw (w, on) (host_acts (words_after words hp) hp posted ho own layer lp lo) ∙ ap (λ y. with_posted (with_own mid 1 own) 1 1 y) p in
+        rw (w, on) (host_acts (words_after words hp) hp posted ho own layer lp lo) ∙ ap (λ y. with_posted (with_own mid 1 own) 1 1 y) p in
         let went_so : PartGoes goes posted_of mid 1 1 part setup (host_reply words layer hp) answer.event part' (state_of next after posted own layer lp lo) =
-            record { own = own; answer = answer; went = subst (λ x. goes part ho setup x part' own answer) r went; told = refl; after = acts } in
+        record { own = own; answer = answer; went = subst (λ x. goes part ho setup x part' own answer) r went; told = refl; after = acts } in
         rw (lives, r) (record {
           process = host_process hp ho;
           thread = starter_thread hp;
@@ -151,7 +149,7 @@ pub layer_goes_on : {P : Type 0} (goes : P → Own → Setup → Reply → P →
     → DrivenStep goes posted_of s 1 0 part setup lp reply answer.event part' (state_of next host hp ho after posted own)
 layer_goes_on goes posted_of s words host hp ho layer lp lo part setup reply next after part' own answer posted e built ready r w l lives_on went p =
     let P : Win32State → Type 0 = λ x. is_ready x 1 0 ≡ true
-        → DrivenStep goes posted_of x 1 0 part setup lp reply answer.event part' (state_of next host hp ho after posted own) in
+    → DrivenStep goes posted_of x 1 0 part setup lp reply answer.event part' (state_of next host hp ho after posted own) in
     subst P e (λ go. at go (layer_lives words host hp ho layer lp lo go)) ready
   where
     at : is_ready (state_of words host hp ho layer lp lo) 1 0 ≡ true → layer ≡ life.Alive
@@ -162,20 +160,20 @@ layer_goes_on goes posted_of s words host hp ho layer lp lo part setup reply nex
         let on_too : life_after lp ≡ life.Alive = sym l ∙ on in
         let mid : Win32State = state_of (words_after words lp) host hp ho life.Alive lp lo in
         let carried : PostedStep (state_of words host hp ho life.Alive lp lo) 1 0 (layer_process lp lo) (main_thread lp) (layer_reply words lp) mid =
-            subst (λ x. PostedStep (state_of words host hp ho life.Alive lp lo) 1 0 (layer_process lp lo) (main_thread lp) (layer_reply words lp)
-                (state_of (words_after words lp) host hp ho x lp lo)) on_too (layer_posted words host hp ho lp lo built alive) in
+        subst (λ x. PostedStep (state_of words host hp ho life.Alive lp lo) 1 0 (layer_process lp lo) (main_thread lp) (layer_reply words lp)
+        (state_of (words_after words lp) host hp ho x lp lo)) on_too (layer_posted words host hp ho lp lo built alive) in
         let acts : state_of next host hp ho after posted own ≡ with_posted (with_own mid 2 own) 2 0 (posted_of part') =
-            rw (w, on) (layer_acts (words_after words lp) host hp ho lp posted lo own) ∙ ap (λ y. with_posted (with_own mid 2 own) 2 0 y) p in
+        rw (w, on) (layer_acts (words_after words lp) host hp ho lp posted lo own) ∙ ap (λ y. with_posted (with_own mid 2 own) 2 0 y) p in
         let live : is_live (process_of mid.processes 2) ≡ true = layer_live (words_after words lp) host hp ho life.Alive lp lo in
         let went_so : PartGoes goes posted_of mid 2 0 part setup (layer_reply words lp) answer.event part' (state_of next host hp ho after posted own) =
-            record {
-              own = own;
-              answer = answer;
-              went = subst (λ x. goes part x setup (layer_reply words lp) part' own answer) (sym (layer_memory (words_after words lp) host hp ho lp lo))
-                  (subst (λ x. goes part lo setup x part' own answer) r went);
-              told = refl;
-              after = acts;
-            } in
+        record {
+          own = own;
+          answer = answer;
+          went = subst (λ x. goes part x setup (layer_reply words lp) part' own answer) (sym (layer_memory (words_after words lp) host hp ho lp lo))
+              (subst (λ x. goes part lo setup x part' own answer) r went);
+          told = refl;
+          after = acts;
+        } in
         rw (lives, r) (record {
           process = layer_process lp lo;
           thread = main_thread lp;

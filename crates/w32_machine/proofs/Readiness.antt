@@ -1,12 +1,11 @@
 -- Which threads of the machine's state are ready.
-use Rattle.std.proofs.Common.{◌≡◌, ℕ, Bool, true, false, cond, ◌&&◌, ◌||◌, nat_eq, List, [], ◌∷◌, Some, None, refl, sym, ◌∙◌, ap, zero, suc, arith}
+use Rattle.std.proofs.Common.{◌≡◌, ℕ, Bool, true, false, cond, ◌&&◌, ◌||◌, nat_eq, List, [], ◌∷◌, Some, None, refl, sym, zero, suc, arith}
 use Rattle.std.proofs.lemmas.Bool.{ne_eqb}
 use Rattle.std.proofs.Math.Bool.{or-false}
 use Rattle.std.proofs.lemmas.Bool.Decides.{nat_tests}
 use Rattle.w32_base.specs.declared.call.Call.{Call}
 use Rattle.w32_base.specs.declared.call.Call.TheVariants as call
 use Rattle.w32_base.specs.declared.own.Own.{Own}
-use Rattle.win32_spec.specs.State.{Win32State}
 use Rattle.win32_spec.specs.Ready.{is_ready, may_go, is_handle_signalled, is_some_signalled}
 use Rattle.w32_machine.specs.declared.seat.SeatLife.{SeatLife}
 use Rattle.w32_machine.specs.declared.seat.SeatLife.TheVariants as life

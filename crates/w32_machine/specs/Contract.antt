@@ -11,7 +11,7 @@ use Rattle.w32_base.specs.declared.setup.Setup.{Setup}
 use Rattle.w32_base.specs.declared.part.After.{After}
 use Rattle.win32_spec.specs.State.{Process, Thread, Win32State}
 use Rattle.win32_spec.specs.Ready.{is_ready}
-use Rattle.win32_spec.specs.Lookup.{process_of, process_in, with_posted, with_own}
+use Rattle.win32_spec.specs.Lookup.{process_of, with_posted, with_own}
 use Rattle.w32_machine.specs.declared.machine.Turned.{Turned}
 use Rattle.w32_machine.specs.declared.machine.Turned.TheVariants.{Idle, Done}
 

@@ -1,12 +1,11 @@
 -- The Win32 state that the machine's two processes and its words stand for.
-use Rattle.std.specs.Prelude.{◌≡◌, ℕ, Bool, true, false, List, [], ◌∷◌, ◌++◌, Option, Some, None, length, IsTrue}
+use Rattle.std.specs.Prelude.{◌≡◌, ℕ, true, List, [], ◌∷◌, ◌++◌, Some, None, length}
 use Rattle.w32_base.specs.declared.call.Call.{Call}
 use Rattle.w32_base.specs.declared.own.Own.{Own}
 use Rattle.win32_spec.specs.Handles.{Handle}
 use Rattle.win32_spec.specs.Lookup.{no_memory}
 use Rattle.win32_spec.specs.Call.{is_built}
 use Rattle.win32_spec.specs.State.{Section, ProcessObject, NumberedObject, Thread, Alive, Ended, Process, Win32State}
-use Rattle.w32_machine.specs.declared.seat.Seat.{Seat}
 use Rattle.w32_machine.specs.declared.seat.SeatLife.{SeatLife}
 use Rattle.w32_machine.specs.declared.seat.SeatLife.TheVariants as life
 use Rattle.w32_machine.specs.declared.machine.Machine.TheInside.{Inside}

@@ -14,7 +14,10 @@ pub use words::BadIndex;
 mod tests {
     use crate::{Machine, Turned};
     use std::test::Fail;
-    use w32_base::{Call, Code, HandleList, HandleNo, Instr, Name, Operand, Program, Reply, Slot, ThreadNo, WinNo};
+    use w32_base::{
+        Call, Code, HandleList, HandleNo, Instr, Name, Operand, Program, Reply, Slot, ThreadNo,
+        WinNo,
+    };
 
     #[test]
     fn two_processes_run_and_end(rt: HostRuntime) -> Result<(), Fail> {
@@ -30,7 +33,9 @@ mod tests {
         assert_eq!(rt; machine.in_slot(host), Some(WinNo::new(1)));
         assert_eq!(rt; machine.in_slot(layer), Some(WinNo::new(2)));
         assert!(rt; machine.own(Slot::new(2)).is_none());
-        let next = machine.next_ready((Slot::new(64), ThreadNo::new(2))).ok_or("ready")?;
+        let next = machine
+            .next_ready((Slot::new(64), ThreadNo::new(2)))
+            .ok_or("ready")?;
         assert_eq!(rt; next.0, host);
         assert_eq!(rt; machine.turn(host, starter), Turned::Done(Reply::Word(1)));
         assert_eq!(rt; machine.turn(layer, main), Turned::Done(Reply::Word(1)));
@@ -40,6 +45,28 @@ mod tests {
         assert_eq!(rt; machine.in_slot(layer), None);
         assert_eq!(rt; machine.turn(host, starter), Turned::Done(Reply::Word(1)));
         assert!(rt; !machine.quiet());
+        Ok(())
+    }
+
+    #[test]
+    fn section_is_read_and_a_call_is_posted(rt: HostRuntime) -> Result<(), Fail> {
+        let program = Program {
+            name: Name::try_new(b"main").ok_or("name")?,
+            heap: 0,
+            stack: 64,
+            code: Code::from_vec(vec![in rt.alloc(); Instr::Exit(Operand::Number(0))]?),
+        };
+        let mut machine = Machine::open(rt.alloc(), &program)?;
+        assert_eq!(rt; machine.word(0).ok(), Some(1));
+        assert_eq!(rt; machine.word(1).ok(), Some((2 << 50) + (2 << 31)));
+        assert_eq!(rt; machine.word(12_000).ok(), Some(0));
+        assert!(rt; machine.word(12_001).is_err());
+        machine.post(Slot::new(1), ThreadNo::new(0), Call::ExitSelf(7));
+        assert_eq!(rt;
+            machine.turn(Slot::new(1), ThreadNo::new(0)),
+            Turned::Done(Reply::Done)
+        );
+        assert_eq!(rt; machine.in_slot(Slot::new(1)), None);
         Ok(())
     }
 }

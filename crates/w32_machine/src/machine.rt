@@ -14,7 +14,9 @@ use crate::seat::{self, Seat, SeatLife};
 use crate::words::{self, BadIndex};
 use std::alloc::{AllocError, Global};
 use std::marker::Model;
-use w32_base::{Bytes, Call, Event, HandleNo, Own, Part, Program, Reply, Setup, Slot, ThreadNo, Whole, WinNo};
+use w32_base::{
+    Bytes, Call, Event, HandleNo, Own, Part, Program, Reply, Setup, Slot, ThreadNo, Whole, WinNo,
+};
 
 /// What a turn gives.
 #[derive(Clone, Copy, Debug, PartialEq, Eq)]
@@ -113,7 +115,13 @@ impl Machine {
     /// One turn of a thread with its part: the posted call is carried out, and where the process lives on, the
     /// part goes on with the reply over the bytes of its own process, and its next call is posted. The part is
     /// given nothing else.
-    pub fn drive<P: Whole>(&mut self, slot: Slot, thread: ThreadNo, part: &mut P, setup: &Setup) -> DrivenTurn
+    pub fn drive<P: Whole>(
+        &mut self,
+        slot: Slot,
+        thread: ThreadNo,
+        part: &mut P,
+        setup: &Setup,
+    ) -> DrivenTurn
         requires { (p : P) → is_built (P.posted_of p) ≡ true }
         ensures idle { MatchDriven result ((ready.is_ready self.old slot thread ≡ false) × (self.new ≡ self.old) × (part.new ≡ part.old))
             (λ call reply event. ready.is_ready self.old slot thread ≡ true) }
@@ -233,11 +241,19 @@ impl Machine {
         seat::change_words(&mut self.words, &call);
         self.host.life = seat::life_after(&call);
         if !seat::is_alive(self.host.life) {
-            return DrivenTurn::Done { call, reply, event: None };
+            return DrivenTurn::Done {
+                call,
+                reply,
+                event: None,
+            };
         }
         let answer = part.after(&mut self.host.own, setup, &reply);
         self.host.posted = part.posted();
-        DrivenTurn::Done { call, reply, event: answer.event }
+        DrivenTurn::Done {
+            call,
+            reply,
+            event: answer.event,
+        }
     }
 
     fn drive_layer<P: Whole>(&mut self, part: &mut P, setup: &Setup) -> DrivenTurn
@@ -251,11 +267,19 @@ impl Machine {
         seat::change_words(&mut self.words, &call);
         self.layer.life = seat::life_after(&call);
         if !seat::is_alive(self.layer.life) {
-            return DrivenTurn::Done { call, reply, event: None };
+            return DrivenTurn::Done {
+                call,
+                reply,
+                event: None,
+            };
         }
         let answer = part.after(&mut self.layer.own, setup, &reply);
         self.layer.posted = part.posted();
-        DrivenTurn::Done { call, reply, event: answer.event }
+        DrivenTurn::Done {
+            call,
+            reply,
+            event: answer.event,
+        }
     }
 
     fn host_turn(&mut self) -> Reply

@@ -45,7 +45,12 @@ fn find_target(own: &mut Own, target: u32) -> Turn
     if 2 <= target && target <= 4001 {
         return (Step::Target(Pid::new(target as u16)), None);
     }
-    let event = Event::Kill(me(), Number::unsigned(target), Number::unsigned(0), Answer::Error(Errno::ESRCH));
+    let event = Event::Kill(
+        me(),
+        Number::unsigned(target),
+        Number::unsigned(0),
+        Answer::Error(Errno::ESRCH),
+    );
     answer(own, -3, event)
 }
 
@@ -70,7 +75,12 @@ fn begin_kill(own: &mut Own, target: i32, signal: i32) -> Turn
     ensures { (record { step = result.0; own = own.new; event = result.1 }) ≡ begins_kill own.old target signal }
 {
     if is_refused(target, signal) {
-        let event = Event::Kill(me(), Number::signed(target), Number::signed(signal), Answer::Error(Errno::EINVAL));
+        let event = Event::Kill(
+            me(),
+            Number::signed(target),
+            Number::signed(signal),
+            Answer::Error(Errno::EINVAL),
+        );
         return answer(own, -22, event);
     }
     check_target(own, target, signal)
@@ -129,11 +139,18 @@ fn look(own: &mut Own, program: &Program, word: u64) -> Turn
 fn check(own: &mut Own, target: Pid, word: u64) -> Turn
     ensures { (record { step = result.0; own = own.new; event = result.1 }) ≡ checked own.old target word }
 {
-    let (q, s) = (Number::unsigned(u32::from(target.get())), Number::unsigned(0));
+    let (q, s) = (
+        Number::unsigned(u32::from(target.get())),
+        Number::unsigned(0),
+    );
     if rows::is_record(word) {
         answer(own, 0, Event::Kill(me(), q, s, Answer::Zero))
     } else {
-        answer(own, -3, Event::Kill(me(), q, s, Answer::Error(Errno::ESRCH)))
+        answer(
+            own,
+            -3,
+            Event::Kill(me(), q, s, Answer::Error(Errno::ESRCH)),
+        )
     }
 }
 
@@ -170,7 +187,10 @@ fn seal(status: u8, main: u64, word: u64) -> Turn
         return begin_seal(status, word);
     }
     let event = Event::Die(me(), Number::unsigned(u32::from(status)), Death::Exit);
-    (Step::Parent(status, rows::sealed(main, status)), Some(event))
+    (
+        Step::Parent(status, rows::sealed(main, status)),
+        Some(event),
+    )
 }
 
 fn find_parent(status: u8, main: u64, group: u64) -> Turn

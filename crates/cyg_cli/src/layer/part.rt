@@ -2,9 +2,8 @@
 
 ghost use Rattle.std.specs.Prelude.{◌≡◌, ◌<◌};
 
-use crate::layer::main_thread;
-use crate::layer::starter;
 use crate::layer::step::{self, Step};
+use crate::layer::{main_thread, starter};
 use w32_base::{After, Call, Own, Part, Reply, Setup, Slot, ThreadNo, Whole};
 
 /// The part of a thread of the host or of a layer process.

@@ -1,4 +1,4 @@
-use Rattle.std.proofs.Common.{◌≡◌, ℕ, List, ◌∷◌, slice_set, sym, ◌∙◌, ap, refl, suc}
+use Rattle.std.proofs.Common.{◌≡◌, ℕ, List, ◌∷◌, slice_set, ◌∙◌, ap, refl, suc}
 use Rattle.std.specs.Prelude.{replicate}
 use Rattle.w32_base.specs.declared.own.Own.{Own}
 use Rattle.w32_base.specs.declared.setup.Program.{Program}

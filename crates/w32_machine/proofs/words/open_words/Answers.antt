@@ -1,6 +1,6 @@
-use Rattle.std.proofs.Common.{◌≡◌, ℕ, ◌+◌, List, ◌∷◌, length, sym, ◌∙◌, ap, refl, arith, vec_len}
+use Rattle.std.proofs.Common.{◌≡◌, ℕ, List, ◌∷◌, length, ◌∙◌, ap, arith}
 use Rattle.std.specs.Prelude.{replicate}
-use Rattle.std.proofs.lemmas.List.{replicate-append-replicate, length-replicate}
+use Rattle.std.proofs.lemmas.List.{length-replicate}
 use Rattle.win32_spec.specs.Opening.{opening_words, first_main_word, first_group_word}
 use Rattle.w32_machine.proofs.words.open_words.Goals as goal
 

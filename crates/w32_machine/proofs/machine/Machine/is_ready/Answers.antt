@@ -1,4 +1,4 @@
-use Rattle.std.proofs.Common.{◌≡◌, sym, ◌∙◌}
+use Rattle.std.proofs.Common.{sym, ◌∙◌}
 use Rattle.w32_machine.proofs.Readiness.{is_ready-state_of}
 use Rattle.w32_machine.proofs.Changes.{only_two}
 use Rattle.w32_machine.proofs.machine.Machine.is_ready.Goals as goal

@@ -1,4 +1,4 @@
-use Rattle.std.proofs.Common.{◌≡◌, sym, ◌∙◌}
+use Rattle.std.proofs.Common.{sym, ◌∙◌}
 use Rattle.w32_machine.proofs.Changes.{only_two, is_ready-layer}
 use Rattle.w32_machine.proofs.machine.Machine.layer_is_ready.Goals as goal
 

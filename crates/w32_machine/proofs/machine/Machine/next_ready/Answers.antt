@@ -1,2 +1,0 @@
-use Rattle.std.proofs.Common.{◌≡◌, sym, ◌∙◌}
-use Rattle.w32_machine.proofs.machine.Machine.next_ready.Goals as goal

@@ -1,10 +1,9 @@
-use Rattle.std.proofs.Common.{◌≡◌, ℕ, List, [], ◌∷◌, ◌++◌, refl, ap, ◌∙◌, arith}
+use Rattle.std.proofs.Common.{◌≡◌, ℕ, List, refl, ap, ◌∙◌, arith}
 use Rattle.w32_base.specs.declared.own.Own.{Own}
 use Rattle.w32_base.specs.declared.call.Call.TheVariants.{Load}
 use Rattle.w32_base.specs.declared.setup.Program.{Program}
-use Rattle.win32_spec.specs.State.{Win32State}
 use Rattle.win32_spec.specs.Lookup.{no_memory}
-use Rattle.win32_spec.specs.Opening.{IsOpening, opening, opening_words, opening_memory}
+use Rattle.win32_spec.specs.Opening.{opening, opening_words, opening_memory}
 use Rattle.w32_machine.specs.declared.seat.SeatLife.TheVariants.{Alive}
 use Rattle.w32_machine.specs.View.{state_of}
 use Rattle.w32_machine.proofs.machine.Machine.open.Goals as goal

@@ -1,6 +1,5 @@
 use Rattle.std.proofs.Common.{◌≡◌, sym, ◌∙◌, true}
 use Rattle.win32_spec.specs.Ready.{is_ready}
-use Rattle.win32_spec.specs.Run.{CarriesOut}
 use Rattle.w32_machine.proofs.Changes.{in_host, in_layer}
 use Rattle.w32_machine.proofs.machine.Machine.turn.Goals as goal
 
