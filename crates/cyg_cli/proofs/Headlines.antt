@@ -17,7 +17,7 @@ use Rattle.win32_spec.specs.Lookup.{is_alive, process_of, process_in, thread_in}
 use Rattle.win32_spec.specs.Opening.{first_main_word, first_group_word, opening_words, opening_memory, IsOpening}
 use Rattle.win32_spec.specs.Run.{is_live}
 use Rattle.vm_spec.specs.Image.{image_of, word_at}
-use Rattle.posix_spec.specs.State.{PosixState}
+use Rattle.posix_spec.specs.State.{PosixState, opening_record}
 use Rattle.posix_spec.specs.Opening.{opening_of, new_image}
 use Rattle.posix_spec.specs.Run.{PosixStep}
 use Rattle.layer_spec.specs.Rows.{sealed_word, image_no}
@@ -226,3 +226,75 @@ run_is a b o tail zeros setup x f w at last (e ∷ es) new next run =
       decodes = subst (λ s. Decodes 1 s (posix_at n.shape)) (sym n.stands.machine) (decodes_at (first_code setup.programs) a b tail n.shape n.fits);
     } in
     (rest.0, (run.0.machine, posix_at n.shape, one, rest.1))
+
+-- the opening
+
+record OpeningTail : Type 0 where
+  tail : List ℕ
+  zeros : IsZeros tail
+  words : opening_words ≡ words_at tail Runs 0
+
+abbrev zeros_of : ℕ → List ℕ
+zeros_of n = replicate n 0
+
+zeros_are : (n : ℕ) → IsZeros (zeros_of n)
+zeros_are zero i = refl
+zeros_are (suc n) zero = refl
+zeros_are (suc n) (suc i) = zeros_are n i
+
+opening_tail : OpeningTail
+unfolding opening_words
+opening_tail = record { tail = zeros_of 11997; zeros = zeros_are 11997; words = refl }
+
+abbrev opening_shape : Program → Shape
+opening_shape program = record { stage = Runs; exit = 0; life = Alive; own = opening_memory program; main = step.Start; starter = step.Start; came = false }
+
+opening_is_first : (program : Program) → IsFirst (opening_memory program)
+unfolding opening_memory word_at
+opening_is_first program = record { sized = refl; program = refl; cyg = refl }
+
+opening_fits : (code : List Instr) (program : Program) → Fits code (opening_shape program)
+opening_fits code program = record { first = opening_is_first program; small = tt; ended = λ status e. cc; main = refl; starter = refl }
+
+posix_opens : (program : Program) → posix_at (opening_shape program) ≡ opening_of program
+unfolding opening_memory new_image opening_record
+posix_opens program = refl
+
+opening_stands : (setup : Setup) (w : World) (o : IsWorldOpening setup w)
+    → Stands (2 * o.machine.section) (2 * o.machine.process) opening_tail.tail (opening_shape o.program) w
+opening_stands setup w o = record {
+  machine = o.machine.state
+      ∙ ap (λ ws. state_at (2 * o.machine.section) (2 * o.machine.process) ws (posted_at step.Start) Alive (posted_at step.Start) (opening_memory o.program)) opening_tail.words;
+  starter = o.starter;
+  main = o.main;
+}
+
+one_code : (programs : List Program) (program : Program) → programs ≡ program ∷ [] → first_code programs ∷ [] ≡ map (λ (p : Program). p.code) programs
+one_code programs program e = subst (λ ps. first_code ps ∷ [] ≡ map (λ (p : Program). p.code) ps) (sym e) refl
+
+-- the headline of a run of one program on one row
+pub headline_of : (setup : Setup) (entries : List Entry) (end : End) (budget : ℕ) (code : List Instr)
+    → RunsToTheEnd setup entries end → IsOneProgram setup budget code → Headline setup entries
+headline_of setup entries end budget code r one =
+    let o : IsWorldOpening setup r.opening = r.opens in
+    let a : ℕ = 2 * o.machine.section in
+    let b : ℕ = 2 * o.machine.process in
+    let x : Shape = opening_shape o.program in
+    let fits : Fits (first_code setup.programs) x = opening_fits (first_code setup.programs) o.program in
+    let stands : Stands a b opening_tail.tail x r.opening = opening_stands setup r.opening o in
+    let k : (p : PosixState) × HeadlineRun (first_code setup.programs ∷ []) 1 r.opening.machine (posix_at x) entries r.last.machine p =
+        run_is a b (even_objects o.machine.section o.machine.process o.machine.differ) opening_tail.tail opening_tail.zeros setup x fits r.opening stands (64, 2) entries r.last r.at r.run in
+    let shown : Decodes 1 r.opening.machine (posix_at x) =
+        subst (λ s. Decodes 1 s (posix_at x)) (sym stands.machine) (decodes_at (first_code setup.programs) a b opening_tail.tail x fits) in
+    record {
+      program = o.program;
+      first = o.first;
+      opening = r.opening.machine;
+      opens = o.machine;
+      shown = subst (λ n. Decodes n r.opening.machine (opening_of o.program)) (sym one.rows) (subst (λ p. Decodes 1 r.opening.machine p) (posix_opens o.program) shown);
+      last = r.last.machine;
+      posix_last = k.0;
+      run = subst (λ n. HeadlineRun (codes_of setup) n r.opening.machine (opening_of o.program) entries r.last.machine k.0) (sym one.rows)
+          (subst (λ p. HeadlineRun (codes_of setup) 1 r.opening.machine p entries r.last.machine k.0) (posix_opens o.program)
+              (subst (λ codes. HeadlineRun codes 1 r.opening.machine (posix_at x) entries r.last.machine k.0) (one_code setup.programs one.program.0 one.program.1) k.1));
+    }
