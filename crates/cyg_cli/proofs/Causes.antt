@@ -1,10 +1,13 @@
--- A text that is no script is not run.
-use Rattle.std.proofs.Common.{◌≡◌, ◌≢◌, ℕ, List, Option, Some, None, arith}
+-- What is run is a script, and what a run answers is its journal.
+use Rattle.std.proofs.Common.{◌≡◌, ◌≢◌, ℕ, List, [], Option, Some, None, refl, arith, inl, inr, ◌⊎◌}
 use Rattle.std.specs.Prelude.{IfSome}
 use Rattle.w32_base.specs.declared.entry.Entry.{Entry}
+use Rattle.w32_base.specs.declared.entry.End.{End}
+use Rattle.w32_base.specs.declared.entry.End.TheVariants.{Quiet, Given, Budget}
 use Rattle.w32_base.specs.declared.instr.Instr.{Instr}
+use Rattle.cyg_io.specs.Counts.{Rose}
 use Rattle.layer_spec.specs.FirstForm.{IsFirstForm}
-use Rattle.cyg_cli.specs.Top.{Outside, Ends, OtherWords, ReadFault, NoMemory, Refused, RefusedInPart, Logged, LoggedInPart, IsUnbuilt}
+use Rattle.cyg_cli.specs.Top.{Outside, Ends, OtherWords, ReadFault, NoMemory, Refused, RefusedInPart, Logged, LoggedInPart, Runs, IsUnbuilt, IsJournalOf, IsRunOrShort, run_calls}
 
 abbrev IsNotRun : ℕ → List ℕ → Type 0
 IsNotRun status text = IsUnbuilt text → (status ≢ 0) × (status ≢ 6)
@@ -27,3 +30,41 @@ only_scripts words before after status entries (Refused w r app s none) = other_
 only_scripts words before after status entries (RefusedInPart w r app rose s none) = other_status before.left status (λ t. omega (arith, t, s)) (λ t. omega (arith, t, s))
 only_scripts words before after status entries (Logged end w r app s) = script_run status before.left r.budget r.code r.text
 only_scripts words before after status entries (LoggedInPart end w r app rose s) = other_status before.left status (λ t. omega (arith, t, s)) (λ t. omega (arith, t, s))
+
+-- what a run answers is the journal of a script
+journal_of : (before after : Outside) (entries : List Entry) (end : End) → Runs before after entries end → IsJournalOf before.left entries
+journal_of before after entries end r =
+    record { budget = r.budget; code = r.code; setup = r.setup; text = r.text; script = r.script; headline = r.headline }
+
+pub journal_told : (words : List (List ℕ)) (before after : Outside) (status : ℕ) (entries : List Entry) → Ends words before after status entries
+    → entries ≢ [] → IsJournalOf before.left entries
+journal_told words before after status entries (OtherWords w same s none) some = absurd (some none)
+journal_told words before after status entries (ReadFault w rose same s none) some = absurd (some none)
+journal_told words before after status entries (NoMemory w same s none) some = absurd (some none)
+journal_told words before after status entries (Refused w r app s none) some = absurd (some none)
+journal_told words before after status entries (RefusedInPart w r app rose s none) some = absurd (some none)
+journal_told words before after status entries (Logged end w r app s) some = journal_of before after entries end r
+journal_told words before after status entries (LoggedInPart end w r app rose s) some = journal_of before after entries end r
+
+-- Where the words are accepted, the text is a script and neither the source nor the sink had a fault, it was run, or there
+-- was no memory.
+refused_script : (left : Option (List ℕ)) (status : ℕ) → IfSome left IsUnbuilt → IfSome left (IsRunOrShort status)
+refused_script None status unbuilt = tt
+refused_script (Some text) status unbuilt = λ budget code h. absurd (unbuilt budget code h)
+
+run_or_short : (left : Option (List ℕ)) (status : ℕ) → (status ≡ 0) ⊎ (status ≡ 6) ⊎ (status ≡ 7) → IfSome left (IsRunOrShort status)
+run_or_short None status r = tt
+run_or_short (Some text) status r = λ budget code h. r
+
+pub complete_told : (words : List (List ℕ)) (before after : Outside) (status : ℕ) (entries : List Entry) → Ends words before after status entries
+    → words ≡ run_calls → ¬ Rose before.read_faults after.read_faults → ¬ Rose before.write_faults after.write_faults
+    → IfSome before.left (IsRunOrShort status)
+complete_told words before after status entries (OtherWords w same s none) is read write = absurd (w is)
+complete_told words before after status entries (ReadFault w rose same s none) is read write = absurd (read rose)
+complete_told words before after status entries (NoMemory w same s none) is read write = run_or_short before.left status (inr (inr s))
+complete_told words before after status entries (Refused w r app s none) is read write = refused_script before.left status r.text
+complete_told words before after status entries (RefusedInPart w r app rose s none) is read write = absurd (write rose)
+complete_told words before after status entries (Logged Quiet w r app s) is read write = run_or_short before.left status (inl s)
+complete_told words before after status entries (Logged Given w r app s) is read write = run_or_short before.left status (inl s)
+complete_told words before after status entries (Logged Budget w r app s) is read write = run_or_short before.left status (inr (inl s))
+complete_told words before after status entries (LoggedInPart end w r app rose s) is read write = absurd (write rose)

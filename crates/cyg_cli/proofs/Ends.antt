@@ -11,6 +11,7 @@ use Rattle.layer_spec.specs.FirstForm.{IsFirstForm}
 use Rattle.cyg_cli.specs.Top.{Outside, run_calls, Ends, Refused, RefusedInPart, Logged, LoggedInPart, NoMemory, Refuses, Runs, IsUnbuilt}
 use Rattle.cyg_cli.specs.TopParts.{IsRefusal, IsLogging}
 use Rattle.cyg_cli.proofs.Texts.{first_form_short}
+use Rattle.cyg_cli.proofs.Headlines.{headline_of}
 
 pub of_left : (P : List ℕ → Type 0) (o : Option (List ℕ)) (bytes : List ℕ) → IfSome o (λ left. bytes ≡ left) → P bytes → IfSome o P
 of_left P None bytes e p = tt
@@ -30,7 +31,7 @@ pub logging_ends : (words : List (List ℕ)) (before after : Outside) (status : 
     → words ≡ run_calls → RoseBy 1 before.ends after.ends → IfSome before.left (λ text. IsFirstForm text budget code) → IsOneProgram setup budget code
     → IsLogging setup before.held after.held before.write_faults after.write_faults status entries → Ends words before after status entries
 logging_ends words before after status entries setup budget code w ended text script (inr (s, same, e)) = NoMemory w same s e
-logging_ends words before after status entries setup budget code w ended text script (inl (end, run, inl (s, app, e))) =
-    Logged end w (record { budget = budget; code = code; setup = setup; ended = ended; text = text; script = script; run = run }) app s
-logging_ends words before after status entries setup budget code w ended text script (inl (end, run, inr (s, app, rose, e))) =
-    LoggedInPart end w (record { budget = budget; code = code; setup = setup; ended = ended; text = text; script = script; run = run }) app rose s
+logging_ends words before after status entries setup budget code w ended text script (inl (end, run, parts, inl (s, app, e))) =
+    Logged end w (record { budget = budget; code = code; setup = setup; ended = ended; text = text; script = script; run = run; headline = headline_of setup entries end budget code parts script }) app s
+logging_ends words before after status entries setup budget code w ended text script (inl (end, run, parts, inr (s, app, rose, e))) =
+    LoggedInPart end w (record { budget = budget; code = code; setup = setup; ended = ended; text = text; script = script; run = run; headline = headline_of setup entries end budget code parts script }) app rose s

@@ -63,7 +63,7 @@ drives_turn false setup old slot t called answer event new d = driven_turn old.m
 abbrev round_at : ℕ × ℕ → Position
 round_at last = record { lines = Settle ∷ []; slot = last.0; thread = last.1 }
 
-round_step : (setup : Setup) (old : World) (last : ℕ × ℕ) (e : Entry) (new : World) (next : ℕ × ℕ) → RoundTurn setup old last e new next
+pub round_step : (setup : Setup) (old : World) (last : ℕ × ℕ) (e : Entry) (new : World) (next : ℕ × ℕ) → RoundTurn setup old last e new next
     → DirectiveStep old.machine e new.machine
 round_step setup old last e new next r =
     let is : Entry = turn_entry next.0 next.1 r.turn.called r.turn.answer r.turn.event in

@@ -11,6 +11,7 @@ use Rattle.cyg_io.specs.Sink.{AppendsPart}
 use Rattle.first_form.specs.OneProgram.{IsOneProgram}
 use Rattle.layer_spec.specs.FirstForm.{IsFirstForm}
 use Rattle.layer_spec.specs.LogText.{calls_log}
+use Rattle.layer_spec.specs.Headline.{Headline}
 use Rattle.cyg_cli.specs.RunOf.{IsRunOf}
 
 -- what a source and a sink tell: the bytes left and the bytes held, where they tell them, and their counts
@@ -49,7 +50,8 @@ pub record Refuses (before after : Outside) : Type 0 where
   pub read : IsRead before.ends after.ends before.given after.given
   pub text : IfSome before.left IsUnbuilt
 
--- The text was read to its end and is a script of the first form, whose program was run.
+-- The text was read to its end and is a script of the first form, whose program was run: the journal follows the
+-- schedule, and its events and states have the headline.
 pub record Runs (before after : Outside) (entries : List Entry) (end : End) : Type 0 where
   pub budget : ℕ
   pub code : List Instr
@@ -58,6 +60,7 @@ pub record Runs (before after : Outside) (entries : List Entry) (end : End) : Ty
   pub text : IfSome before.left (λ text. IsFirstForm text budget code)
   pub script : IsOneProgram setup budget code
   pub run : IsRunOf setup entries end
+  pub headline : Headline setup entries
 
 -- The ways in which the top call ends, with its status and its journal.
 pub data Ends (words : List (List ℕ)) (before after : Outside) (status : ℕ) (entries : List Entry) : Type 0 where
@@ -77,3 +80,16 @@ pub data Ends (words : List (List ℕ)) (before after : Outside) (status : ℕ) 
   -- the sink had a fault in the log
   LoggedInPart : (end : End) → words ≡ run_calls → Runs before after entries end → AppendsPart before.held after.held (calls_log entries end)
       → Rose before.write_faults after.write_faults → status ≡ 5 → Ends words before after status entries
+
+-- Where the source told its bytes, they were a script, and this is the journal of a run of what it sets up.
+pub record IsJournalOf (left : Option (List ℕ)) (entries : List Entry) : Type 0 where
+  pub budget : ℕ
+  pub code : List Instr
+  pub setup : Setup
+  pub text : IfSome left (λ text. IsFirstForm text budget code)
+  pub script : IsOneProgram setup budget code
+  pub headline : Headline setup entries
+
+-- if the text is a script, it was run to its end or to its budget, or memory ran out
+abbrev pub IsRunOrShort : ℕ → List ℕ → Type 0
+IsRunOrShort status text = (budget : ℕ) (code : List Instr) → IsFirstForm text budget code → (status ≡ 0) ⊎ (status ≡ 6) ⊎ (status ≡ 7)

@@ -8,6 +8,7 @@ use Rattle.cyg_io.specs.Counts.{Rose}
 use Rattle.cyg_io.specs.Sink.{AppendsPart}
 use Rattle.layer_spec.specs.LogText.{calls_log}
 use Rattle.cyg_cli.specs.RunOf.{IsRunOf}
+use Rattle.cyg_cli.specs.World.{RunsToTheEnd}
 use Rattle.cyg_cli.specs.Top.{refusal, status_of}
 
 -- the refusal was written, or a part of it where the sink had a fault
@@ -25,5 +26,5 @@ IsLogOf ran end before after faults now status entries =
 -- the script was run and its log written so, or memory ran out before the first directive
 abbrev pub IsLogging : Setup → Option (List ℕ) → Option (List ℕ) → ℕ → ℕ → ℕ → List Entry → Type 0
 IsLogging setup before after faults now status entries =
-    ((end : End) × IsRunOf setup entries end × IsLogOf entries end before after faults now status entries)
+    ((end : End) × IsRunOf setup entries end × RunsToTheEnd setup entries end × IsLogOf entries end before after faults now status entries)
     ⊎ ((status ≡ 7) × (after ≡ before) × (entries ≡ []))

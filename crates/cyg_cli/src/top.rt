@@ -6,7 +6,7 @@ ghost use Rattle.std.specs.List.{AllPass};
 ghost use Rattle.layer_spec.specs.LogText.{is_built_entry};
 ghost use Rattle.std.specs.Io.KnownBytes.{Appends};
 ghost use Rattle.cyg_io.specs.Counts.{Rose, RoseBy};
-ghost use Rattle.cyg_cli.specs.Top.{Ends, IsRead, IsUnbuilt, refusal, run_calls, status_of as status_number};
+ghost use Rattle.cyg_cli.specs.Top.{Ends, IsJournalOf, IsRead, IsRunOrShort, IsUnbuilt, refusal, run_calls, status_of as status_number};
 ghost use Rattle.cyg_cli.specs.TopParts.{IsRefusal, IsLogging, IsLogOf};
 
 use crate::run::run;
@@ -117,6 +117,14 @@ pub fn run_top<S: Source, K: Sink>(
     ensures read_fault { result.status ≡ 4 → Rose (S.faults src.old) (S.faults src.new) × (K.held sink.new ≡ K.held sink.old) }
     ensures write_fault { result.status ≡ 5 → Rose (K.faults sink.old) (K.faults sink.new) }
     ensures no_memory { result.status ≡ 7 → (K.held sink.new ≡ K.held sink.old) × (result.journal ≡ []) }
+
+    // A journal that is answered is that of a run of the script: its entries are steps of the modelled Win32, its events
+    // steps of the POSIX machine, whose processes are those that the rows and the memory of the live processes show.
+    ensures headline { result.journal ≢ [] → IsJournalOf (S.remaining src.old) result.journal }
+
+    // A script is run, unless the source or the sink has a fault or memory runs out.
+    ensures complete { map string_bytes words.now.items ≡ run_calls → ¬ Rose (S.faults src.old) (S.faults src.new) → ¬ Rose (K.faults sink.old) (K.faults sink.new)
+        → IfSome (S.remaining src.old) (IsRunOrShort result.status) }
 
     // Where it ends with 0 or 6, the source has answered its end.
     ensures whole_run { result.status ≡ 0 → RoseBy 1 (S.ends src.old) (S.ends src.new) }

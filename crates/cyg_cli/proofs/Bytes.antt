@@ -1,0 +1,30 @@
+-- Numbers in four bytes of a list.
+use Rattle.std.proofs.Common.{◌≡◌, ℕ, ◌+◌, ◌-◌, ◌^◌, ◌≤◌, ◌<◌, List, ◌++◌, length, take, drop, get_or, refl, sym, ◌∙◌, ap, arith, length-append, length-take, length-drop}
+use Rattle.std.proofs.lemmas.List.{length-take-le, get_or-append_right, get_or-take, get_or-drop}
+use Rattle.std.specs.Int.{w32, to_le_bytes}
+use Rattle.vm_spec.specs.Image.{word_at, with_word}
+
+pub length-with_word : (xs : List ℕ) (place n : ℕ) → place + 4 ≤ length xs → length (with_word xs place n) ≡ length xs
+unfolding with_word
+length-with_word xs place n h = simp (length-append, length-take, length-drop) (omega arith)
+
+byte_after : (xs : List ℕ) (place n i : ℕ) → place + 4 ≤ length xs → place + 4 ≤ i → get_or (with_word xs place n) i 0 ≡ get_or xs i 0
+unfolding with_word
+byte_after xs place n i h l =
+    let front : length (take place xs) ≡ place = length-take-le place xs (omega arith) in
+    let b : length (take place xs ++ to_le_bytes w32 n) ≡ place + 4 = omega (arith, front, length-append (take place xs) (to_le_bytes w32 n)) in
+    let e : place + 4 + (i - (place + 4)) ≡ i = omega arith in
+    get_or-append_right (take place xs ++ to_le_bytes w32 n) (drop (place + 4) xs) (place + 4) i 0 b l
+    ∙ get_or-drop (place + 4) xs (i - (place + 4)) 0
+    ∙ ap (λ k. get_or xs k 0) e
+
+-- a number is told by its four bytes
+word_at-bytes : (xs ys : List ℕ) (q : ℕ) → ((k : ℕ) → k < 4 → get_or (take 4 (drop q xs)) k 0 ≡ get_or (take 4 (drop q ys)) k 0) → word_at xs q ≡ word_at ys q
+unfolding word_at
+word_at-bytes xs ys q at = omega (arith, at 0 (omega arith), at 1 (omega arith), at 2 (omega arith), at 3 (omega arith))
+
+-- a number after the bytes that are written stays
+pub word_at-with_word : (xs : List ℕ) (place n q : ℕ) → place + 4 ≤ length xs → place + 4 ≤ q → word_at (with_word xs place n) q ≡ word_at xs q
+word_at-with_word xs place n q h l =
+    word_at-bytes (with_word xs place n) xs q (λ k m. get_or-take 4 (drop q (with_word xs place n)) k 0 m ∙ get_or-drop q (with_word xs place n) k 0
+    ∙ byte_after xs place n (q + k) h (omega arith) ∙ sym (get_or-drop q xs k 0) ∙ sym (get_or-take 4 (drop q xs) k 0 m))

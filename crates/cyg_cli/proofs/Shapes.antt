@@ -1,0 +1,272 @@
+-- The states of both machines in a run of the first path, by a few parts.
+use Rattle.std.proofs.Common.{◌≡◌, ℕ, ◌+◌, ◌*◌, ◌/◌, ◌%◌, ◌^◌, ◌<◌, ◌≤◌, Bool, true, false, cond, nat_eq, List, [], ◌∷◌, drop, replicate, length, get_or, Option, Some, None, refl, sym, ◌∙◌, ap, subst, arith}
+use Rattle.std.specs.Prelude.{IsSome, is_some, pos}
+use Rattle.std.proofs.lemmas.Bool.{eqb-true}
+use Rattle.w32_base.specs.declared.call.Call.{Call}
+use Rattle.w32_base.specs.declared.own.Own.{Own}
+use Rattle.w32_base.specs.declared.instr.Instr.{Instr}
+use Rattle.w32_base.specs.declared.instr.Action.{Action}
+use Rattle.w32_base.specs.declared.instr.Action.TheVariants.{Default}
+use Rattle.win32_spec.specs.State.{Life, Alive, Ended, Process, Win32State}
+use Rattle.win32_spec.specs.Lookup.{is_alive, process_of}
+use Rattle.win32_spec.specs.Opening.{first_main_word, first_group_word}
+use Rattle.vm_spec.specs.Image.{Image, image_of, program_of, word_at, value_of}
+use Rattle.vm_spec.specs.Step.{Upcoming, CallInstruction, upcoming}
+use Rattle.posix_spec.specs.State.{Record, Numbered, PosixState, Running, Zombie, NoCall, record_of, opening_record, opening_terminal}
+use Rattle.posix_spec.specs.State.{Life as PosixLife}
+use Rattle.posix_spec.specs.Step.{exit_status, is_kill, is_zombie}
+use Rattle.layer_spec.specs.Rows.{sealed_word, gone_word, exit_word, kind_of, is_record_word, low_of, image_no, report_of, execd_of}
+use Rattle.layer_spec.specs.Decodes.{Decodes, ShowsRecord, HoldsRecord, main_word, saved_in, actions_from}
+use Rattle.cyg_cli.specs.declared.layer.step.Step.{Step}
+use Rattle.cyg_cli.specs.declared.layer.step.Step.TheVariants as step
+use Rattle.cyg_cli.specs.declared.world.World.{World}
+use Rattle.cyg_cli.specs.Layer.{posted_at}
+use Rattle.cyg_cli.proofs.Seats.{state_at, layer_at, main_part, starter_part}
+
+-- whether the process runs, has died, or is gone from its row
+pub data Stage : Type 0 where
+  Runs : Stage
+  Died : (status : ℕ) → Stage
+  Left : (status : ℕ) → Stage
+
+-- the parts
+pub record Shape : Type 0 where
+  pub stage : Stage
+  pub exit : ℕ
+  pub life : Life
+  pub own : Own
+  pub main : Step
+  pub starter : Step
+  pub came : Bool
+
+abbrev pub stage_word : Stage → ℕ
+stage_word Runs = first_main_word
+stage_word (Died status) = sealed_word first_main_word status
+stage_word (Left status) = gone_word
+
+abbrev pub words_at : List ℕ → Stage → ℕ → List ℕ
+words_at tail stage exit = 1 ∷ stage_word stage ∷ first_group_word ∷ exit ∷ tail
+
+abbrev pub machine_at : ℕ → ℕ → List ℕ → Shape → Win32State
+machine_at a b tail x = state_at a b (words_at tail x.stage x.exit) (posted_at x.starter) x.life (posted_at x.main) x.own
+
+abbrev pub first_record : PosixLife → Image → Record
+first_record life image = record {
+  parent = 1;
+  group = 2;
+  session = 2;
+  terminal = true;
+  execd = false;
+  life = life;
+  report = 0;
+  pending = 0;
+  mask = 0;
+  saved = None;
+  actions = replicate 31 Default;
+  image = image;
+  call = NoCall;
+  blocked = false;
+  due = false;
+  lost = 0;
+  owed = 0;
+}
+
+pub opening_record_is : (image : Image) → opening_record image ≡ first_record Running image
+unfolding opening_record
+opening_record_is image = refl
+
+abbrev pub records_at : Stage → Image → List Numbered
+records_at Runs image = record { number = 2; process = first_record Running image } ∷ []
+records_at (Died status) image = record { number = 2; process = first_record (Zombie status) image } ∷ []
+records_at (Left status) image = []
+
+abbrev pub status_at : Stage → Option ℕ
+status_at Runs = None
+status_at (Died status) = Some status
+status_at (Left status) = Some status
+
+abbrev pub posix_at : Shape → PosixState
+posix_at x = record {
+  records = records_at x.stage (image_of x.own);
+  terminal = opening_terminal;
+  console = None;
+  used = 2 ∷ [];
+  first_status = status_at x.stage;
+  host_came = x.came;
+}
+
+abbrev pub opening_cyg : List ℕ
+opening_cyg = 1 ∷ replicate 287 0
+
+-- the memory of the first process: its program is the first one, and its cygheap is as it was
+pub record IsFirst (own : Own) : Type 0 where
+  pub sized : length own.dat ≡ 64
+  pub program : program_of (image_of own) ≡ 0
+  pub cyg : own.cyg ≡ opening_cyg
+
+-- what is next is an exit with this status
+pub record ExitsNext (code : List Instr) (own : Own) (status : ℕ) : Type 0 where
+  pub next : exit_status (upcoming code (image_of own)) (image_of own) ≡ Some status
+  pub small : status < 256
+
+-- what holds where the main thread is at a step
+abbrev pub MainAt : List Instr → Step → Stage → ℕ → Own → Type 0
+MainAt code step.Start stage exit own = stage ≡ Runs
+MainAt code step.Look stage exit own = stage ≡ Runs
+MainAt code (step.Target q) stage exit own = (stage ≡ Runs) × (is_kill (upcoming code (image_of own)) (image_of own) (pos q) (pos 0) ≡ true) × (2 ≤ q)
+MainAt code (step.ExitWord status old) stage exit own = (stage ≡ Runs) × ExitsNext code own status
+MainAt code (step.Sealing status) stage exit own = (stage ≡ Runs) × ExitsNext code own status × (exit ≡ exit_word 2 status)
+MainAt code (step.Seal status main) stage exit own = (stage ≡ Runs) × ExitsNext code own status × (exit ≡ exit_word 2 status) × (main ≡ first_main_word)
+MainAt code (step.Parent status main) stage exit own = (stage ≡ Died status) × (main ≡ sealed_word first_main_word status)
+MainAt code (step.Gather status main) stage exit own = (stage ≡ Died status) × (main ≡ sealed_word first_main_word status)
+MainAt code (step.Leave status) stage exit own = stage ≡ Left status
+MainAt code step.Rest stage exit own = stage ≡ Runs
+MainAt code _ stage exit own = ⊥
+
+-- what holds where the starter is at a step
+abbrev pub StarterAt : Step → Bool → Life → Type 0
+StarterAt step.Start came life = came ≡ false
+StarterAt step.Waiting came life = came ≡ false
+StarterAt step.Asking came life = (came ≡ false) × ((code : ℕ) × (life ≡ Ended code))
+StarterAt step.Rest came life = came ≡ true
+StarterAt _ came life = ⊥
+
+abbrev pub IsSmall : Stage → Type 0
+IsSmall Runs = Unit {0}
+IsSmall (Died status) = status < 256
+IsSmall (Left status) = status < 256
+
+pub record Fits (code : List Instr) (x : Shape) : Type 0 where
+  pub first : IsFirst x.own
+  pub small : IsSmall x.stage
+  pub ended : (status : ℕ) → x.life ≡ Ended status → x.stage ≡ Left status
+  pub main : MainAt code x.main x.stage x.exit x.own
+  pub starter : StarterAt x.starter x.came x.life
+
+-- what the cygheap holds
+mask_is : 0 ≡ word_at opening_cyg 4
+unfolding word_at
+mask_is = refl
+
+actions_are : replicate 31 Default ≡ actions_from 31 (drop 16 opening_cyg)
+unfolding actions_from
+actions_are = refl
+
+held : (own : Own) → own.cyg ≡ opening_cyg → HoldsRecord own (first_record Running (image_of own))
+held own e = record {
+  image = refl;
+  mask = mask_is ∙ ap (λ bytes. word_at bytes 4) (sym e);
+  saved = ap saved_in (sym e);
+  actions = actions_are ∙ ap (λ bytes. actions_from 31 (drop 16 bytes)) (sym e);
+}
+
+the_process : (a b : Process) → Some a ≡ Some b → a ≡ b
+the_process a b e = cc
+
+-- where the layer process is alive, its memory is the one that is shown
+held_by : (a b : ℕ) (words : List ℕ) (hp : Call) (life : Life) (lp : Call) (own : Own) → own.cyg ≡ opening_cyg → (q : Process)
+    → process_of (state_at a b words hp life lp own).processes 2 ≡ Some q → is_alive q.life ≡ true → HoldsRecord q.own (first_record Running (image_of own))
+held_by a b words hp Alive lp own e q is alive =
+    subst (λ (p : Process). HoldsRecord p.own (first_record Running (image_of own))) (the_process (layer_at a Alive lp own) q is) (held own e)
+held_by a b words hp (Ended code) lp own e q is alive =
+    let never : false ≡ true = ap (λ (p : Process). is_alive p.life) (the_process (layer_at a (Ended code) lp own) q is) ∙ alive in cc
+
+-- the fields of a sealed word
+
+pub sealed_kind : (s : ℕ) → s < 256 → kind_of (sealed_word first_main_word s) ≡ 4
+sealed_kind s l = omega arith
+
+sealed_low : (s : ℕ) → s < 256 → low_of (sealed_word first_main_word s) ≡ s
+sealed_low s l = omega arith
+
+sealed_report : (s : ℕ) → s < 256 → report_of (sealed_word first_main_word s) ≡ 0
+sealed_report s l = omega arith
+
+sealed_execd : (s : ℕ) → s < 256 → execd_of (sealed_word first_main_word s) ≡ 0
+sealed_execd s l = omega arith
+
+-- the row of a process that runs, and of one that has died
+
+shows_running : (a b : ℕ) (tail : List ℕ) (exit : ℕ) (hp : Call) (life : Life) (lp : Call) (own : Own) → own.cyg ≡ opening_cyg
+    → ShowsRecord (state_at a b (words_at tail Runs exit) hp life lp own) 1 (first_record Running (image_of own))
+shows_running a b tail exit hp life lp own e = record {
+  life = refl;
+  report = refl;
+  execd = refl;
+  pending = λ z. refl;
+  parent = refl;
+  group = refl;
+  session = refl;
+  terminal = refl;
+  memory = λ z q is alive. held_by a b (words_at tail Runs exit) hp life lp own e q is alive;
+}
+
+shows_zombie : (a b : ℕ) (tail : List ℕ) (exit : ℕ) (hp : Call) (life : Life) (lp : Call) (own : Own) (status : ℕ) → status < 256
+    → ShowsRecord (state_at a b (words_at tail (Died status) exit) hp life lp own) 1 (first_record (Zombie status) (image_of own))
+shows_zombie a b tail exit hp life lp own status l = record {
+  life = (sealed_kind status l, sealed_low status l);
+  report = sym (sealed_report status l);
+  execd = rw (sealed_execd status l) refl;
+  pending = λ z. let never : true ≡ false = z in cc;
+  parent = refl;
+  group = refl;
+  session = refl;
+  terminal = refl;
+  memory = λ z q is alive. let never : true ≡ false = z in cc;
+}
+
+-- the only number is 2
+only_number : (n : ℕ) (r : Record) (b : Bool) → nat_eq 2 n ≡ b → IsSome (cond b (Some r) None) → (2 ≤ n) × (n ≤ 2)
+only_number n r true e some = let is : 2 ≡ n = eqb-true 2 n e in (omega arith, omega arith)
+only_number n r false e some = let never : false ≡ true = some in cc
+
+the_record : (a b : Record) → Some a ≡ Some b → a ≡ b
+the_record a b e = cc
+
+-- facts of row 1 alone
+pub of_row : (P : ℕ → Type 0) → P 1 → (row : ℕ) → 1 ≤ row → row ≤ 1 → P row
+of_row P p row low high = let is : 1 ≡ row = omega arith in subst P is p
+
+decodes_running : (a b : ℕ) (tail : List ℕ) (exit : ℕ) (hp : Call) (life : Life) (lp : Call) (own : Own) (p : PosixState) → own.cyg ≡ opening_cyg
+    → p.records ≡ records_at Runs (image_of own) → Decodes 1 (state_at a b (words_at tail Runs exit) hp life lp own) p
+decodes_running a b tail exit hp life lp own p e f =
+    let s : Win32State = state_at a b (words_at tail Runs exit) hp life lp own in
+    let rs : List Numbered = records_at Runs (image_of own) in
+    record {
+      numbers = rw f (λ n some. only_number n (first_record Running (image_of own)) (nat_eq 2 n) refl some);
+      present = rw f (of_row (λ row. is_record_word (main_word s row) ≡ is_some (record_of rs (row + 1))) refl);
+      shown = rw f (λ row r low high. of_row (λ row. record_of rs (row + 1) ≡ Some r → ShowsRecord s row r)
+          (λ is. subst (λ x. ShowsRecord s 1 x) (the_record (first_record Running (image_of own)) r is) (shows_running a b tail exit hp life lp own e)) row low high);
+    }
+
+decodes_zombie : (a b : ℕ) (tail : List ℕ) (exit : ℕ) (hp : Call) (life : Life) (lp : Call) (own : Own) (status : ℕ) (p : PosixState) → status < 256
+    → p.records ≡ records_at (Died status) (image_of own) → Decodes 1 (state_at a b (words_at tail (Died status) exit) hp life lp own) p
+decodes_zombie a b tail exit hp life lp own status p l f =
+    let s : Win32State = state_at a b (words_at tail (Died status) exit) hp life lp own in
+    let rs : List Numbered = records_at (Died status) (image_of own) in
+    let word : is_record_word (main_word s 1) ≡ true = rw (sealed_kind status l) refl in
+    record {
+      numbers = rw f (λ n some. only_number n (first_record (Zombie status) (image_of own)) (nat_eq 2 n) refl some);
+      present = rw f (of_row (λ row. is_record_word (main_word s row) ≡ is_some (record_of rs (row + 1))) word);
+      shown = rw f (λ row r low high. of_row (λ row. record_of rs (row + 1) ≡ Some r → ShowsRecord s row r)
+          (λ is. subst (λ x. ShowsRecord s 1 x) (the_record (first_record (Zombie status) (image_of own)) r is) (shows_zombie a b tail exit hp life lp own status l)) row low high);
+    }
+
+decodes_none : (a b : ℕ) (tail : List ℕ) (exit : ℕ) (hp : Call) (life : Life) (lp : Call) (own : Own) (status : ℕ) (p : PosixState)
+    → p.records ≡ [] → Decodes 1 (state_at a b (words_at tail (Left status) exit) hp life lp own) p
+decodes_none a b tail exit hp life lp own status p f =
+    let s : Win32State = state_at a b (words_at tail (Left status) exit) hp life lp own in
+    record {
+      numbers = rw f (λ n some. let never : false ≡ true = some in cc);
+      present = rw f (of_row (λ row. is_record_word (main_word s row) ≡ false) refl);
+      shown = rw f (λ row r low high is. let never : None ≡ Some r = is in cc);
+    }
+
+by_stage : (a b : ℕ) (tail : List ℕ) (stage : Stage) (exit : ℕ) (hp : Call) (life : Life) (lp : Call) (own : Own) (p : PosixState) → own.cyg ≡ opening_cyg
+    → IsSmall stage → p.records ≡ records_at stage (image_of own) → Decodes 1 (state_at a b (words_at tail stage exit) hp life lp own) p
+by_stage a b tail Runs exit hp life lp own p e l f = decodes_running a b tail exit hp life lp own p e f
+by_stage a b tail (Died status) exit hp life lp own p e l f = decodes_zombie a b tail exit hp life lp own status p l f
+by_stage a b tail (Left status) exit hp life lp own p e l f = decodes_none a b tail exit hp life lp own status p f
+
+pub decodes_at : (code : List Instr) (a b : ℕ) (tail : List ℕ) (x : Shape) → Fits code x → Decodes 1 (machine_at a b tail x) (posix_at x)
+decodes_at code a b tail x f = by_stage a b tail x.stage x.exit (posted_at x.starter) x.life (posted_at x.main) x.own (posix_at x) f.first.cyg f.small refl
