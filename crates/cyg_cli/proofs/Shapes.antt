@@ -8,6 +8,7 @@ use Rattle.w32_base.specs.declared.instr.Instr.{Instr}
 use Rattle.w32_base.specs.declared.instr.Action.{Action}
 use Rattle.w32_base.specs.declared.instr.Action.TheVariants.{Default}
 use Rattle.win32_spec.specs.State.{Life, Alive, Ended, Process, Win32State}
+use Rattle.win32_spec.specs.Handles.{is_listed}
 use Rattle.win32_spec.specs.Lookup.{is_alive, process_of}
 use Rattle.win32_spec.specs.Opening.{first_main_word, first_group_word}
 use Rattle.vm_spec.specs.Image.{Image, image_of, program_of, word_at, value_of}
@@ -16,7 +17,7 @@ use Rattle.posix_spec.specs.State.{Record, Numbered, PosixState, Running, Zombie
 use Rattle.posix_spec.specs.State.{Life as PosixLife}
 use Rattle.posix_spec.specs.Step.{exit_status, is_kill, is_zombie}
 use Rattle.layer_spec.specs.Rows.{sealed_word, gone_word, exit_word, kind_of, is_record_word, low_of, image_no, report_of, execd_of}
-use Rattle.layer_spec.specs.Decodes.{Decodes, ShowsRecord, HoldsRecord, main_word, saved_in, actions_from}
+use Rattle.layer_spec.specs.Decodes.{Decodes, ShowsRecord, HoldsRecord, main_word, saved_in, actions_from, children_in, children_from, is_child_of}
 use Rattle.cyg_cli.specs.declared.layer.step.Step.{Step}
 use Rattle.cyg_cli.specs.declared.layer.step.Step.TheVariants as step
 use Rattle.cyg_cli.specs.declared.world.World.{World}
@@ -152,24 +153,41 @@ actions_are : replicate 31 Default ≡ actions_from 31 (drop 16 opening_cyg)
 unfolding actions_from
 actions_are = refl
 
-held : (own : Own) → own.cyg ≡ opening_cyg → HoldsRecord own (first_record Running (image_of own))
-held own e = record {
+none_listed : (n : ℕ) → is_listed (children_in opening_cyg) n ≡ false
+unfolding children_in children_from word_at
+none_listed n = refl
+
+-- nobody has process 2 as its parent
+no_child : (image : Image) (n : ℕ) → is_child_of 2 (record_of (records_at Runs image) n) ≡ false
+no_child image n = by_number (nat_eq 2 n)
+  where
+    by_number : (c : Bool) → is_child_of 2 (cond c (Some (first_record Running image)) None) ≡ false
+    by_number true = refl
+    by_number false = refl
+
+held : (a : ℕ) (lp : Call) (own : Own) (p : PosixState) → own.cyg ≡ opening_cyg → p.records ≡ records_at Runs (image_of own)
+    → HoldsRecord (layer_at a Alive lp own) p 2 (first_record Running (image_of own))
+held a lp own p e f = record {
   image = refl;
   mask = mask_is ∙ ap (λ bytes. word_at bytes 4) (sym e);
   saved = ap saved_in (sym e);
   actions = actions_are ∙ ap (λ bytes. actions_from 31 (drop 16 bytes)) (sym e);
+  bases = tt;
+  children = λ n. ap (λ bytes. is_listed (children_in bytes) n) e ∙ none_listed n ∙ sym (no_child (image_of own) n)
+      ∙ ap (λ rs. is_child_of 2 (record_of rs n)) (sym f);
 }
 
 the_process : (a b : Process) → Some a ≡ Some b → a ≡ b
 the_process a b e = cc
 
 -- where the layer process is alive, its memory is the one that is shown
-held_by : (a b : ℕ) (words : List ℕ) (hp : Call) (life : Life) (lp : Call) (own : Own) → own.cyg ≡ opening_cyg → (q : Process)
-    → process_of (state_at a b words hp life lp own).processes 2 ≡ Some q → is_alive q.life ≡ true → HoldsRecord q.own (first_record Running (image_of own))
-held_by a b words hp Alive lp own e q is alive =
-    subst (λ (p : Process). HoldsRecord p.own (first_record Running (image_of own))) (the_process (layer_at a Alive lp own) q is) (held own e)
-held_by a b words hp (Ended code) lp own e q is alive =
-    let never : false ≡ true = ap (λ (p : Process). is_alive p.life) (the_process (layer_at a (Ended code) lp own) q is) ∙ alive in cc
+held_by : (a b : ℕ) (words : List ℕ) (hp : Call) (life : Life) (lp : Call) (own : Own) (p : PosixState) → own.cyg ≡ opening_cyg
+    → p.records ≡ records_at Runs (image_of own) → (q : Process)
+    → process_of (state_at a b words hp life lp own).processes 2 ≡ Some q → is_alive q.life ≡ true → HoldsRecord q p 2 (first_record Running (image_of own))
+held_by a b words hp Alive lp own p e f q is alive =
+    subst (λ (x : Process). HoldsRecord x p 2 (first_record Running (image_of own))) (the_process (layer_at a Alive lp own) q is) (held a lp own p e f)
+held_by a b words hp (Ended code) lp own p e f q is alive =
+    let never : false ≡ true = ap (λ (x : Process). is_alive x.life) (the_process (layer_at a (Ended code) lp own) q is) ∙ alive in cc
 
 -- the fields of a sealed word
 
@@ -187,9 +205,10 @@ sealed_execd s l = omega arith
 
 -- the row of a process that runs, and of one that has died
 
-shows_running : (a b : ℕ) (tail : List ℕ) (exit : ℕ) (hp : Call) (life : Life) (lp : Call) (own : Own) → own.cyg ≡ opening_cyg
-    → ShowsRecord (state_at a b (words_at tail Runs exit) hp life lp own) 1 (first_record Running (image_of own))
-shows_running a b tail exit hp life lp own e = record {
+shows_running : (a b : ℕ) (tail : List ℕ) (exit : ℕ) (hp : Call) (life : Life) (lp : Call) (own : Own) (p : PosixState) → own.cyg ≡ opening_cyg
+    → p.records ≡ records_at Runs (image_of own)
+    → ShowsRecord (state_at a b (words_at tail Runs exit) hp life lp own) p 1 (first_record Running (image_of own))
+shows_running a b tail exit hp life lp own p e f = record {
   life = refl;
   report = refl;
   execd = refl;
@@ -198,12 +217,12 @@ shows_running a b tail exit hp life lp own e = record {
   group = refl;
   session = refl;
   terminal = refl;
-  memory = λ z q is alive. held_by a b (words_at tail Runs exit) hp life lp own e q is alive;
+  memory = λ z q is alive. held_by a b (words_at tail Runs exit) hp life lp own p e f q is alive;
 }
 
-shows_zombie : (a b : ℕ) (tail : List ℕ) (exit : ℕ) (hp : Call) (life : Life) (lp : Call) (own : Own) (status : ℕ) → status < 256
-    → ShowsRecord (state_at a b (words_at tail (Died status) exit) hp life lp own) 1 (first_record (Zombie status) (image_of own))
-shows_zombie a b tail exit hp life lp own status l = record {
+shows_zombie : (a b : ℕ) (tail : List ℕ) (exit : ℕ) (hp : Call) (life : Life) (lp : Call) (own : Own) (status : ℕ) (p : PosixState) → status < 256
+    → ShowsRecord (state_at a b (words_at tail (Died status) exit) hp life lp own) p 1 (first_record (Zombie status) (image_of own))
+shows_zombie a b tail exit hp life lp own status p l = record {
   life = (sealed_kind status l, sealed_low status l);
   report = sym (sealed_report status l);
   execd = rw (sealed_execd status l) refl;
@@ -235,8 +254,10 @@ decodes_running a b tail exit hp life lp own p e f =
     record {
       numbers = rw f (λ n some. only_number n (first_record Running (image_of own)) (nat_eq 2 n) refl some);
       present = rw f (of_row (λ row. is_record_word (main_word s row) ≡ is_some (record_of rs (row + 1))) refl);
-      shown = rw f (λ row r low high. of_row (λ row. record_of rs (row + 1) ≡ Some r → ShowsRecord s row r)
-          (λ is. subst (λ x. ShowsRecord s 1 x) (the_record (first_record Running (image_of own)) r is) (shows_running a b tail exit hp life lp own e)) row low high);
+      shown = λ row r low high. of_row (λ row. record_of p.records (row + 1) ≡ Some r → ShowsRecord s p row r)
+          (λ is. subst (λ x. ShowsRecord s p 1 x) (the_record (first_record Running (image_of own)) r (ap (λ xs. record_of xs 2) (sym f) ∙ is))
+              (shows_running a b tail exit hp life lp own p e f))
+          row low high;
     }
 
 decodes_zombie : (a b : ℕ) (tail : List ℕ) (exit : ℕ) (hp : Call) (life : Life) (lp : Call) (own : Own) (status : ℕ) (p : PosixState) → status < 256
@@ -248,8 +269,10 @@ decodes_zombie a b tail exit hp life lp own status p l f =
     record {
       numbers = rw f (λ n some. only_number n (first_record (Zombie status) (image_of own)) (nat_eq 2 n) refl some);
       present = rw f (of_row (λ row. is_record_word (main_word s row) ≡ is_some (record_of rs (row + 1))) word);
-      shown = rw f (λ row r low high. of_row (λ row. record_of rs (row + 1) ≡ Some r → ShowsRecord s row r)
-          (λ is. subst (λ x. ShowsRecord s 1 x) (the_record (first_record (Zombie status) (image_of own)) r is) (shows_zombie a b tail exit hp life lp own status l)) row low high);
+      shown = λ row r low high. of_row (λ row. record_of p.records (row + 1) ≡ Some r → ShowsRecord s p row r)
+          (λ is. subst (λ x. ShowsRecord s p 1 x) (the_record (first_record (Zombie status) (image_of own)) r (ap (λ xs. record_of xs 2) (sym f) ∙ is))
+              (shows_zombie a b tail exit hp life lp own status p l))
+          row low high;
     }
 
 decodes_none : (a b : ℕ) (tail : List ℕ) (exit : ℕ) (hp : Call) (life : Life) (lp : Call) (own : Own) (status : ℕ) (p : PosixState)

@@ -4,7 +4,8 @@ use Rattle.std.specs.Prelude.{◌≡◌, ℕ, ◌+◌, ◌*◌, ◌%◌, ◌≤�
 use Rattle.w32_base.specs.declared.own.Own.{Own}
 use Rattle.w32_base.specs.declared.instr.Action.{Action}
 use Rattle.w32_base.specs.declared.instr.Action.TheVariants.{Default, Ignore, Handler}
-use Rattle.win32_spec.specs.State.{Process, Win32State}
+use Rattle.win32_spec.specs.State.{Process, PlacedModule, Win32State}
+use Rattle.win32_spec.specs.Handles.{is_listed}
 use Rattle.win32_spec.specs.Lookup.{is_alive, process_of}
 use Rattle.win32_spec.specs.Call.{section_words}
 use Rattle.vm_spec.specs.Image.{image_of, word_at}
@@ -35,7 +36,7 @@ IsLife m Running = kind_of m ≡ kind_running
 IsLife m (Stopped signal) = (kind_of m ≡ kind_stopped) × (stop_of m ≡ signal)
 IsLife m (Zombie status) = (kind_of m ≡ kind_zombie) × (low_of m ≡ status)
 
--- The cygheap keeps a flag at 2, the mask at 4, the mask from before at 8, and from 16 on the actions of signals 1 to
+-- The cygheap of a process keeps a flag at 2, the mask at 4, the mask from before at 8, and from 16 on the actions of signals 1 to
 -- 31 in four bytes each: the kind, whether a call begins again, and the handler's place in two bytes.
 abbrev pub action_of : ℕ → ℕ → ℕ → Action
 action_of kind restart target = if nat_eq kind 0 then Default else if nat_eq kind 1 then Ignore else Handler target (nat_eq restart 1)
@@ -47,16 +48,40 @@ actions_from n bytes = []
 abbrev pub saved_in : List ℕ → Option ℕ
 saved_in cyg = if nat_eq (slice_index_or cyg 2 0 % 2) 1 then Some (word_at cyg 8) else None
 
--- the memory of a live process holds the record's image, and its masks and actions
-pub record HoldsRecord (own : Own) (r : Record) : Type 0 where
-  pub image : r.image ≡ image_of own
-  pub mask : r.mask ≡ word_at own.cyg 4
-  pub saved : r.saved ≡ saved_in own.cyg
-  pub actions : r.actions ≡ actions_from 31 (drop 16 own.cyg)
+-- the bases of the modules at 140, in two bytes each
+abbrev pub base_in : List ℕ → ℕ → ℕ
+base_in cyg m = slice_index_or cyg (140 + 2 * m) 0 + 256 * slice_index_or cyg (141 + 2 * m) 0
 
--- The words of a row are those of the record. Where the process that the main word names is alive and the record isn't
--- a zombie, that process's memory holds the rest.
-pub record ShowsRecord (s : Win32State) (row : ℕ) (r : Record) : Type 0 where
+abbrev pub AreBases : List ℕ → List PlacedModule → Type 0
+AreBases cyg [] = Unit {0}
+AreBases cyg (m ∷ ms) = (base_in cyg m.module_no ≡ m.base) × AreBases cyg ms
+
+-- the number of children at 156, and from 160 on the children in four bytes each, the first two of which are the number
+unfoldable pub children_from : ℕ → List ℕ → List ℕ
+children_from (suc n) (low ∷ high ∷ flags ∷ more ∷ bytes) = (low + 256 * high) ∷ children_from n bytes
+children_from n bytes = []
+
+unfoldable pub children_in : List ℕ → List ℕ
+children_in cyg = children_from (word_at cyg 156) (drop 160 cyg)
+
+-- whether a process has this raw parent
+abbrev pub is_child_of : ℕ → Option Record → Bool
+is_child_of parent None = false
+is_child_of parent (Some r) = nat_eq r.parent parent
+
+-- The memory of a live process holds the image of the record with its number, and the masks and the actions. Its
+-- cygheap tells where the process's modules are placed, and who its children are.
+pub record HoldsRecord (q : Process) (p : PosixState) (number : ℕ) (r : Record) : Type 0 where
+  pub image : r.image ≡ image_of q.own
+  pub mask : r.mask ≡ word_at q.own.cyg 4
+  pub saved : r.saved ≡ saved_in q.own.cyg
+  pub actions : r.actions ≡ actions_from 31 (drop 16 q.own.cyg)
+  pub bases : AreBases q.own.cyg q.placed
+  pub children : (n : ℕ) → is_listed (children_in q.own.cyg) n ≡ is_child_of number (record_of p.records n)
+
+-- The words of row r are those of the record of process number r + 1. Where the process that the main word names is
+-- alive and the record isn't a zombie, that process's memory holds the rest.
+pub record ShowsRecord (s : Win32State) (p : PosixState) (row : ℕ) (r : Record) : Type 0 where
   pub life : IsLife (main_word s row) r.life
   pub report : r.report ≡ report_of (main_word s row)
   pub execd : r.execd ≡ nat_eq (execd_of (main_word s row)) 1
@@ -66,10 +91,10 @@ pub record ShowsRecord (s : Win32State) (row : ℕ) (r : Record) : Type 0 where
   pub session : r.session ≡ session_of (group_word s row)
   pub terminal : r.terminal ≡ nat_eq (terminal_of (group_word s row)) 1
   pub memory : is_zombie r.life ≡ false → (q : Process) → process_of s.processes (image_no (main_word s row)) ≡ Some q
-      → is_alive q.life ≡ true → HoldsRecord q.own r
+      → is_alive q.life ≡ true → HoldsRecord q p (row + 1) r
 
 -- Row r shows process number r + 1: it is a running, a stopped or a zombie row exactly where there is that process.
 pub record Decodes (rows : ℕ) (s : Win32State) (p : PosixState) : Type 0 where
   pub numbers : (n : ℕ) → IsSome (record_of p.records n) → (2 ≤ n) × (n ≤ rows + 1)
   pub present : (row : ℕ) → 1 ≤ row → row ≤ rows → is_record_word (main_word s row) ≡ is_some (record_of p.records (row + 1))
-  pub shown : (row : ℕ) (r : Record) → 1 ≤ row → row ≤ rows → record_of p.records (row + 1) ≡ Some r → ShowsRecord s row r
+  pub shown : (row : ℕ) (r : Record) → 1 ≤ row → row ≤ rows → record_of p.records (row + 1) ≡ Some r → ShowsRecord s p row r
