@@ -33,7 +33,7 @@ use Rattle.cyg_cli.specs.Entries.{turn_entry}
 use Rattle.cyg_cli.specs.Layer.{posted_at, first_code}
 use Rattle.cyg_cli.specs.ThreadPart.{call_of, Goes}
 use Rattle.cyg_cli.specs.World.{Turns, RoundTurn, DrivenRun, IsWorldOpening, RunsToTheEnd}
-use Rattle.cyg_cli.proofs.Schedules.{round_step}
+use Rattle.cyg_cli.proofs.Schedules.{round_at, round_given, round_step}
 use Rattle.cyg_cli.proofs.Seats.{AreObjects, even_objects, state_at, host_at, layer_at, main_part, starter_part}
 use Rattle.cyg_cli.proofs.Shapes.{Stage, Runs, Died, Left, Shape, words_at, machine_at, posix_at, opening_record_is, first_record, opening_cyg, IsFirst, StarterAt, IsSmall, Fits, of_row, sealed_kind, decodes_at}
 use Rattle.cyg_cli.proofs.PosixSteps.{posix_of}
@@ -224,11 +224,11 @@ next_of_turn a b o tail zeros setup x f w new at slot t e turn =
 -- the whole run
 run_is : (a b : ℕ) → AreObjects a b → (tail : List ℕ) → IsZeros tail → (setup : Setup) (x : Shape) → Fits (first_code setup.programs) x → (w : World) → Stands a b tail x w
     → (last : ℕ × ℕ) (es : List Entry) (new : World) (next : ℕ × ℕ) → DrivenRun setup w last es new next
-    → (p : PosixState) × HeadlineRun (first_code setup.programs ∷ []) 1 w.machine (posix_at x) es new.machine p
-run_is a b o tail zeros setup x f w at last [] new next run = (posix_at x, (ap (λ (v : World). v.machine) run.0, refl))
+    → (p : PosixState) × HeadlineRun (first_code setup.programs ∷ []) 1 w.machine (round_at last) (posix_at x) es new.machine (round_at next) p
+run_is a b o tail zeros setup x f w at last [] new next run = (posix_at x, (ap (λ (v : World). v.machine) run.0, ap round_at run.1, refl))
 run_is a b o tail zeros setup x f w at last (e ∷ es) new next run =
     let n : Next a b tail setup x e run.0 = next_of_turn a b o tail zeros setup x f w run.0 at run.1.0 run.1.1 e run.2.turn in
-    let rest : (p : PosixState) × HeadlineRun (first_code setup.programs ∷ []) 1 run.0.machine (posix_at n.shape) es new.machine p =
+    let rest : (p : PosixState) × HeadlineRun (first_code setup.programs ∷ []) 1 run.0.machine (round_at run.1) (posix_at n.shape) es new.machine (round_at next) p =
     run_is a b o tail zeros setup n.shape n.fits run.0 n.stands run.1 es new next run.3 in
     let one : HeadlineStep (first_code setup.programs ∷ []) 1 w.machine (posix_at x) e run.0.machine (posix_at n.shape) = record {
       step = round_step setup w last e run.0 run.1 run.2;
@@ -238,7 +238,7 @@ run_is a b o tail zeros setup x f w at last (e ∷ es) new next run =
       evidence = subst (λ s. HasEvidence s e) (sym at.machine) n.evidence;
       decodes = subst (λ s. Decodes 1 s (posix_at n.shape)) (sym n.stands.machine) (decodes_at (first_code setup.programs) a b tail n.shape n.fits);
     } in
-    (rest.0, (run.0.machine, posix_at n.shape, one, rest.1))
+    (rest.0, (run.0.machine, round_at run.1, posix_at n.shape, round_given setup w last e run.0 run.1 run.2, one, rest.1))
 
 -- the opening
 
@@ -287,7 +287,7 @@ one_code programs program e = subst (λ ps. first_code ps ∷ [] ≡ map (λ (p 
 
 -- the headline of a run of one program on one row
 pub headline_of : (setup : Setup) (entries : List Entry) (end : End) (budget : ℕ) (code : List Instr)
-    → RunsToTheEnd setup entries end → IsOneProgram setup budget code → Headline setup entries
+    → RunsToTheEnd setup entries end → IsOneProgram setup budget code → Headline setup entries end
 headline_of setup entries end budget code r one =
     let o : IsWorldOpening setup r.opening = r.opens in
     let a : ℕ = 2 * o.machine.section in
@@ -295,7 +295,7 @@ headline_of setup entries end budget code r one =
     let x : Shape = opening_shape o.program in
     let fits : Fits (first_code setup.programs) x = opening_fits (first_code setup.programs) o.program in
     let stands : Stands a b opening_tail.tail x r.opening = opening_stands setup r.opening o in
-    let k : (p : PosixState) × HeadlineRun (first_code setup.programs ∷ []) 1 r.opening.machine (posix_at x) entries r.last.machine p =
+    let k : (p : PosixState) × HeadlineRun (first_code setup.programs ∷ []) 1 r.opening.machine (round_at (64, 2)) (posix_at x) entries r.last.machine (round_at r.at) p =
     run_is a b (even_objects o.machine.section o.machine.process o.machine.differ) opening_tail.tail opening_tail.zeros setup x fits r.opening stands (64, 2) entries r.last r.at r.run in
     let shown : Decodes 1 r.opening.machine (posix_at x) =
     subst (λ s. Decodes 1 s (posix_at x)) (sym stands.machine) (decodes_at (first_code setup.programs) a b opening_tail.tail x fits) in
@@ -306,8 +306,10 @@ headline_of setup entries end budget code r one =
       opens = o.machine;
       shown = subst (λ n. Decodes n r.opening.machine (opening_of o.program)) (sym one.rows) (subst (λ p. Decodes 1 r.opening.machine p) (posix_opens o.program) shown);
       last = r.last.machine;
+      at = round_at r.at;
       posix_last = k.0;
-      run = subst (λ n. HeadlineRun (codes_of setup) n r.opening.machine (opening_of o.program) entries r.last.machine k.0) (sym one.rows)
-          (subst (λ p. HeadlineRun (codes_of setup) 1 r.opening.machine p entries r.last.machine k.0) (posix_opens o.program)
-          (subst (λ codes. HeadlineRun codes 1 r.opening.machine (posix_at x) entries r.last.machine k.0) (one_code setup.programs one.program.0 one.program.1) k.1));
+      within = r.ends;
+      run = subst (λ n. HeadlineRun (codes_of setup) n r.opening.machine (round_at (64, 2)) (opening_of o.program) entries r.last.machine (round_at r.at) k.0) (sym one.rows)
+          (subst (λ p. HeadlineRun (codes_of setup) 1 r.opening.machine (round_at (64, 2)) p entries r.last.machine (round_at r.at) k.0) (posix_opens o.program)
+          (subst (λ codes. HeadlineRun codes 1 r.opening.machine (round_at (64, 2)) (posix_at x) entries r.last.machine (round_at r.at) k.0) (one_code setup.programs one.program.0 one.program.1) k.1));
     }

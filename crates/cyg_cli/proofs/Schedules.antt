@@ -60,7 +60,7 @@ drives_turn : (b : Bool) (setup : Setup) (old : World) (slot t : ℕ) (called : 
 drives_turn true setup old slot t called answer event new d = driven_turn old.machine slot t old.starter new.starter setup called answer event new.machine d.0
 drives_turn false setup old slot t called answer event new d = driven_turn old.machine slot t old.main new.main setup called answer event new.machine d.0
 
-abbrev round_at : ℕ × ℕ → Position
+abbrev pub round_at : ℕ × ℕ → Position
 round_at last = record { lines = Settle ∷ []; slot = last.0; thread = last.1 }
 
 pub round_step : (setup : Setup) (old : World) (last : ℕ × ℕ) (e : Entry) (new : World) (next : ℕ × ℕ) → RoundTurn setup old last e new next
@@ -73,7 +73,7 @@ round_step setup old last e new next r =
     ((Some r.turn.called ≡ None) × (Step r.turn.answer ≡ Idle) × (new.machine ≡ old.machine)) in
     subst (λ x. DirectiveStep old.machine x new.machine) (sym r.turn.entry) (subst P (sym r.ready.ready) turn)
 
-round_given : (setup : Setup) (old : World) (last : ℕ × ℕ) (e : Entry) (new : World) (next : ℕ × ℕ) → RoundTurn setup old last e new next
+pub round_given : (setup : Setup) (old : World) (last : ℕ × ℕ) (e : Entry) (new : World) (next : ℕ × ℕ) → RoundTurn setup old last e new next
     → GivesNext old.machine (round_at last) (Settle ∷ []) e.directive (round_at next)
 round_given setup old last e new next r = inl (record {
   slot = next.0;

@@ -60,7 +60,7 @@ pub record Runs (before after : Outside) (entries : List Entry) (end : End) : Ty
   pub text : IfSome before.left (λ text. IsFirstForm text budget code)
   pub script : IsOneProgram setup budget code
   pub run : IsRunOf setup entries end
-  pub headline : Headline setup entries
+  pub headline : Headline setup entries end
 
 -- The ways in which the top call ends, with its status and its journal.
 pub data Ends (words : List (List ℕ)) (before after : Outside) (status : ℕ) (entries : List Entry) : Type 0 where
@@ -88,7 +88,8 @@ pub record IsJournalOf (left : Option (List ℕ)) (entries : List Entry) : Type 
   pub setup : Setup
   pub text : IfSome left (λ text. IsFirstForm text budget code)
   pub script : IsOneProgram setup budget code
-  pub headline : Headline setup entries
+  pub end : End
+  pub headline : Headline setup entries end
 
 -- if the text is a script, it was run to its end or to its budget, or memory ran out
 abbrev pub IsRunOrShort : ℕ → List ℕ → Type 0

@@ -1,14 +1,16 @@
 -- What the journal of a run is: the entries are steps of the modelled Win32, their events are steps of the POSIX
 -- machine, each entry keeps its discipline and has its evidence, and after each entry the rows and the memory of the
 -- live processes show the POSIX machine's processes.
-use Rattle.std.specs.Prelude.{◌≡◌, ℕ, List, [], ◌∷◌, map, Option, Some, MatchOption, slice_get}
+use Rattle.std.specs.Prelude.{◌≡◌, ℕ, List, [], ◌∷◌, map, length, Option, Some, MatchOption, slice_get}
 use Rattle.w32_base.specs.declared.instr.Instr.{Instr}
 use Rattle.w32_base.specs.declared.entry.Entry.{Entry}
+use Rattle.w32_base.specs.declared.entry.End.{End}
 use Rattle.w32_base.specs.declared.setup.Program.{Program}
 use Rattle.w32_base.specs.declared.setup.Setup.{Setup}
 use Rattle.win32_spec.specs.State.{Win32State}
 use Rattle.win32_spec.specs.Opening.{IsOpening}
 use Rattle.win32_spec.specs.Run.{DirectiveStep}
+use Rattle.win32_spec.specs.Schedule.{Position, Settle, GivesNext, EndsBy, opening_position}
 use Rattle.posix_spec.specs.State.{PosixState}
 use Rattle.posix_spec.specs.Run.{PosixStep}
 use Rattle.posix_spec.specs.Opening.{opening_of}
@@ -27,17 +29,22 @@ pub record HeadlineStep (codes : List (List Instr)) (rows : ℕ) (w : Win32State
   pub evidence : HasEvidence w e
   pub decodes : Decodes rows w' p'
 
-abbrev pub HeadlineRun : List (List Instr) → ℕ → Win32State → PosixState → List Entry → Win32State → PosixState → Type 0
-HeadlineRun codes rows w p [] w' p' = (w' ≡ w) × (p' ≡ p)
-HeadlineRun codes rows w p (e ∷ es) w' p' = (mid : Win32State) × (then : PosixState) × HeadlineStep codes rows w p e mid then × HeadlineRun codes rows mid then es w' p'
+-- the entries stand under the directives that the schedule gives, each in the state before its entry
+abbrev pub HeadlineRun : List (List Instr) → ℕ → Win32State → Position → PosixState → List Entry → Win32State → Position → PosixState → Type 0
+HeadlineRun codes rows w at p [] w' at' p' = (w' ≡ w) × (at' ≡ at) × (p' ≡ p)
+HeadlineRun codes rows w at p (e ∷ es) w' at' p' = (mid : Win32State) × (then : Position) × (now : PosixState)
+    × GivesNext w at at.lines e.directive then × HeadlineStep codes rows w p e mid now × HeadlineRun codes rows mid then now es w' at' p'
 
--- the journal of a run of the script's first program, from the states in which both machines open
-pub record Headline (setup : Setup) (entries : List Entry) : Type 0 where
+-- The journal of a run of the script's first program under the schedule `settle`, from the states in which both
+-- machines open, to its end or to the budget.
+pub record Headline (setup : Setup) (entries : List Entry) (end : End) : Type 0 where
   pub program : Program
   pub first : slice_get setup.programs 0 ≡ Some program
   pub opening : Win32State
   pub opens : IsOpening program opening
   pub shown : Decodes setup.limits.rows opening (opening_of program)
   pub last : Win32State
+  pub at : Position
   pub posix_last : PosixState
-  pub run : HeadlineRun (codes_of setup) setup.limits.rows opening (opening_of program) entries last posix_last
+  pub run : HeadlineRun (codes_of setup) setup.limits.rows opening (opening_position (Settle ∷ [])) (opening_of program) entries last at posix_last
+  pub within : EndsBy setup.limits.budget (length entries) last at.lines end
