@@ -1,27 +1,25 @@
 -- The states of both machines in a run of the first path, by a few parts.
-use Rattle.std.proofs.Common.{◌≡◌, ℕ, ◌+◌, ◌*◌, ◌/◌, ◌%◌, ◌^◌, ◌<◌, ◌≤◌, Bool, true, false, cond, nat_eq, List, [], ◌∷◌, drop, replicate, length, get_or, Option, Some, None, refl, sym, ◌∙◌, ap, subst, arith}
+use Rattle.std.proofs.Common.{◌≡◌, ℕ, ◌+◌, ◌<◌, ◌≤◌, Bool, true, false, cond, nat_eq, List, [], ◌∷◌, drop, replicate, length, Option, Some, None, refl, sym, ◌∙◌, ap, subst, arith}
 use Rattle.std.specs.Prelude.{IsSome, is_some, pos}
 use Rattle.std.proofs.lemmas.Bool.{eqb-true}
 use Rattle.w32_base.specs.declared.call.Call.{Call}
 use Rattle.w32_base.specs.declared.own.Own.{Own}
 use Rattle.w32_base.specs.declared.instr.Instr.{Instr}
-use Rattle.w32_base.specs.declared.instr.Action.{Action}
 use Rattle.w32_base.specs.declared.instr.Action.TheVariants.{Default}
 use Rattle.win32_spec.specs.State.{Life, Alive, Ended, Process, Win32State}
 use Rattle.win32_spec.specs.Lookup.{is_alive, process_of}
 use Rattle.win32_spec.specs.Opening.{first_main_word, first_group_word}
-use Rattle.vm_spec.specs.Image.{Image, image_of, program_of, word_at, value_of}
-use Rattle.vm_spec.specs.Step.{Upcoming, CallInstruction, upcoming}
+use Rattle.vm_spec.specs.Image.{Image, image_of, program_of, word_at}
+use Rattle.vm_spec.specs.Step.{upcoming}
 use Rattle.posix_spec.specs.State.{Record, Numbered, PosixState, Running, Zombie, NoCall, record_of, opening_record, opening_terminal}
 use Rattle.posix_spec.specs.State.{Life as PosixLife}
-use Rattle.posix_spec.specs.Step.{exit_status, is_kill, is_zombie}
-use Rattle.layer_spec.specs.Rows.{sealed_word, gone_word, exit_word, kind_of, is_record_word, low_of, image_no, report_of, execd_of}
+use Rattle.posix_spec.specs.Step.{exit_status, is_kill}
+use Rattle.layer_spec.specs.Rows.{sealed_word, gone_word, exit_word, kind_of, is_record_word, low_of, report_of, execd_of}
 use Rattle.layer_spec.specs.Decodes.{Decodes, ShowsRecord, HoldsRecord, main_word, saved_in, actions_from}
 use Rattle.cyg_cli.specs.declared.layer.step.Step.{Step}
 use Rattle.cyg_cli.specs.declared.layer.step.Step.TheVariants as step
-use Rattle.cyg_cli.specs.declared.world.World.{World}
 use Rattle.cyg_cli.specs.Layer.{posted_at}
-use Rattle.cyg_cli.proofs.Seats.{state_at, layer_at, main_part, starter_part}
+use Rattle.cyg_cli.proofs.Seats.{state_at, layer_at}
 
 -- whether the process runs, has died, or is gone from its row
 pub data Stage : Type 0 where
