@@ -1,5 +1,5 @@
 -- The events of a run by the parts of the threads are built ones.
-use Rattle.std.proofs.Common.{◌≡◌, ℕ, ℤ, pos, negsuc, Bool, true, false, ◌&&◌, ◌||◌, not, nat_eq, List, [], ◌∷◌, length, Option, Some, None, refl, sym, ◌∙◌, ap, subst}
+use Rattle.std.proofs.Common.{◌≡◌, ℕ, ℤ, pos, negsuc, Bool, true, false, ◌&&◌, ◌||◌, not, nat_eq, List, [], ◌∷◌, length, Option, None, refl, ◌∙◌, ap}
 use Rattle.std.specs.Prelude.{MatchBool, nat_le, if◌then◌else◌}
 use Rattle.std.specs.List.{list_all, AllPass}
 use Rattle.std.proofs.lemmas.List.Sums.{AllPass-from_list_all}
@@ -26,8 +26,8 @@ use Rattle.cyg_cli.specs.declared.layer.part.ThreadPart.{ThreadPart}
 use Rattle.cyg_cli.specs.declared.layer.step.Step.{Step}
 use Rattle.cyg_cli.specs.declared.layer.step.Step.TheVariants as step
 use Rattle.cyg_cli.specs.declared.world.World.{World}
-use Rattle.cyg_cli.specs.Layer.{Did, can_take, answers, finds_target, checks_target, begins_kill, goes_on, looked, main_goes, main_after, starter_after, after_reply, first_code}
-use Rattle.cyg_cli.specs.ThreadPart.{call_of, turn_of, Goes}
+use Rattle.cyg_cli.specs.Layer.{Did, can_take, answers, finds_target, checks_target, begins_kill, goes_on, main_goes, main_after, starter_after, after_reply, first_code}
+use Rattle.cyg_cli.specs.ThreadPart.{call_of, Goes}
 use Rattle.cyg_cli.specs.World.{DrivenRun, RoundTurn, RunsToTheEnd}
 
 abbrev IsBuilt : Did → Type 0

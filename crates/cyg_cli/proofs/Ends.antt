@@ -1,5 +1,5 @@
 -- The ways in which the top call ends, by what its parts did.
-use Rattle.std.proofs.Common.{◌≡◌, ℕ, ◌≤◌, List, [], length, Option, Some, None, refl, sym, ◌∙◌, inl, inr, subst, arith, ◌⊎◌}
+use Rattle.std.proofs.Common.{◌≡◌, ℕ, List, Option, Some, None, inl, inr, subst, arith}
 use Rattle.std.specs.Prelude.{IfSome}
 use Rattle.w32_base.specs.declared.entry.Entry.{Entry}
 use Rattle.w32_base.specs.declared.instr.Instr.{Instr}
@@ -8,7 +8,7 @@ use Rattle.cyg_io.specs.Counts.{RoseBy}
 use Rattle.cyg_io.specs.Source.{Draws}
 use Rattle.first_form.specs.OneProgram.{IsOneProgram}
 use Rattle.layer_spec.specs.FirstForm.{IsFirstForm}
-use Rattle.cyg_cli.specs.Top.{Outside, run_calls, Ends, Refused, RefusedInPart, Logged, LoggedInPart, NoMemory, Refuses, Runs, IsUnbuilt}
+use Rattle.cyg_cli.specs.Top.{Outside, run_calls, Ends, Refused, RefusedInPart, Logged, LoggedInPart, NoMemory, Refuses, IsUnbuilt}
 use Rattle.cyg_cli.specs.TopParts.{IsRefusal, IsLogging}
 use Rattle.cyg_cli.proofs.Texts.{first_form_short}
 use Rattle.cyg_cli.proofs.Headlines.{headline_of}

@@ -1,8 +1,7 @@
 -- A run by the parts of the threads has the headline.
-use Rattle.std.proofs.Common.{◌≡◌, ℕ, ◌*◌, ◌≤◌, ◌<◌, Bool, true, false, cond, nat_eq, List, [], ◌∷◌, map, replicate, length, get_or, Option, Some, None, refl, sym, ◌∙◌, ap, subst, arith, inl, inr, ◌⊎◌, zero, suc}
-use Rattle.std.specs.Prelude.{MatchBool, MatchOption, slice_get}
+use Rattle.std.proofs.Common.{◌≡◌, ℕ, ◌*◌, Bool, true, false, cond, nat_eq, List, [], ◌∷◌, map, replicate, Option, Some, None, refl, sym, ◌∙◌, ap, subst, arith, inl, inr, ◌⊎◌, zero, suc}
+use Rattle.std.specs.Prelude.{MatchBool, MatchOption}
 use Rattle.std.proofs.lemmas.Bool.{eqb-true, eqb-false}
-use Rattle.std.proofs.lemmas.List.{length-replicate}
 use Rattle.w32_base.specs.declared.call.Call.{Call}
 use Rattle.w32_base.specs.declared.call.Reply.{Reply}
 use Rattle.w32_base.specs.declared.event.Event.{Event}
@@ -14,29 +13,27 @@ use Rattle.w32_base.specs.declared.setup.Program.{Program}
 use Rattle.w32_base.specs.declared.setup.Setup.{Setup}
 use Rattle.win32_spec.specs.State.{Life, Alive, Ended, Process, Thread, Win32State}
 use Rattle.win32_spec.specs.Lookup.{is_alive, process_of, process_in, thread_in}
-use Rattle.win32_spec.specs.Opening.{first_main_word, first_group_word, opening_words, opening_memory, IsOpening}
+use Rattle.win32_spec.specs.Opening.{opening_words, opening_memory}
 use Rattle.win32_spec.specs.Run.{is_live}
-use Rattle.vm_spec.specs.Image.{image_of, word_at}
+use Rattle.vm_spec.specs.Image.{word_at}
 use Rattle.posix_spec.specs.State.{PosixState, opening_record}
 use Rattle.posix_spec.specs.Opening.{opening_of, new_image}
 use Rattle.posix_spec.specs.Run.{PosixStep}
-use Rattle.layer_spec.specs.Rows.{sealed_word, image_no}
+use Rattle.layer_spec.specs.Rows.{image_no}
 use Rattle.layer_spec.specs.Decodes.{Decodes, main_word}
 use Rattle.layer_spec.specs.Evidence.{KeepsDiscipline, HasEvidence, is_live_word}
 use Rattle.layer_spec.specs.Headline.{codes_of, HeadlineStep, HeadlineRun, Headline}
 use Rattle.w32_machine.specs.Contract.{DrivenStep}
 use Rattle.first_form.specs.OneProgram.{IsOneProgram}
 use Rattle.cyg_cli.specs.declared.layer.step.Step.TheVariants as step
-use Rattle.cyg_cli.specs.declared.layer.part.ThreadPart.{ThreadPart}
 use Rattle.cyg_cli.specs.declared.world.World.{World}
 use Rattle.cyg_cli.specs.Entries.{turn_entry}
 use Rattle.cyg_cli.specs.Layer.{posted_at, first_code}
 use Rattle.cyg_cli.specs.ThreadPart.{call_of, Goes}
-use Rattle.cyg_cli.specs.World.{Turns, RoundTurn, DrivenRun, IsWorldOpening, RunsToTheEnd}
+use Rattle.cyg_cli.specs.World.{Turns, DrivenRun, IsWorldOpening, RunsToTheEnd}
 use Rattle.cyg_cli.proofs.Schedules.{round_at, round_given, round_step}
 use Rattle.cyg_cli.proofs.Seats.{AreObjects, even_objects, state_at, host_at, layer_at, main_part, starter_part}
-use Rattle.cyg_cli.proofs.Shapes.{Stage, Runs, Died, Left, Shape, words_at, machine_at, posix_at, opening_record_is, first_record, opening_cyg, IsFirst, StarterAt, IsSmall, Fits, of_row, sealed_kind, decodes_at}
-use Rattle.cyg_cli.proofs.PosixSteps.{posix_of}
+use Rattle.cyg_cli.proofs.Shapes.{Stage, Runs, Died, Left, Shape, words_at, machine_at, posix_at, IsFirst, StarterAt, IsSmall, Fits, of_row, sealed_kind, decodes_at}
 use Rattle.cyg_cli.proofs.MainTurns.{IsZeros, Before, Kept, main_keeps, far_word}
 use Rattle.cyg_cli.proofs.StarterTurns.{Around, StarterKept, starter_keeps}
 

@@ -1,8 +1,8 @@
 -- What each turn of the main thread keeps and shows.
-use Rattle.std.proofs.Common.{◌≡◌, ◌≢◌, ℕ, zero, suc, ◌+◌, ◌*◌, ◌-◌, ◌≤◌, ◌<◌, Bool, true, false, cond, ◌&&◌, ◌||◌, nat_eq, List, [], ◌∷◌, length, get_or, set, Option, Some, None, refl, sym, ◌∙◌, ap, subst, arith}
+use Rattle.std.proofs.Common.{◌≡◌, ◌≢◌, ℕ, zero, suc, ◌+◌, ◌-◌, ◌≤◌, ◌<◌, Bool, true, false, cond, ◌&&◌, ◌||◌, nat_eq, List, [], ◌∷◌, length, get_or, set, Option, Some, None, refl, sym, ◌∙◌, ap, subst, arith}
 use Rattle.std.specs.Prelude.{ℤ, pos, negsuc, not, nat_le, nat_lt, MatchOption}
 use Rattle.std.specs.Int.{w32, cast_unsigned}
-use Rattle.std.proofs.lemmas.Bool.{eq-eqb, ne_eqb, eqb-true, eqb-false, lt-ltb, leb-true}
+use Rattle.std.proofs.lemmas.Bool.{eq-eqb, eqb-true, eqb-false, lt-ltb, leb-true}
 use Rattle.w32_base.specs.declared.call.Call.{Call}
 use Rattle.w32_base.specs.declared.call.Call.TheVariants as call
 use Rattle.w32_base.specs.declared.call.Reply.{Reply}
@@ -21,19 +21,19 @@ use Rattle.w32_base.specs.declared.own.Own.{Own}
 use Rattle.w32_base.specs.declared.setup.Setup.{Setup}
 use Rattle.win32_spec.specs.Objects.{load_reply, exchanged}
 use Rattle.win32_spec.specs.State.{Alive, Ended, Win32State}
-use Rattle.win32_spec.specs.Opening.{first_main_word, first_group_word}
-use Rattle.vm_spec.specs.Image.{Image, image_of, with_image, with_result, moved_on, place_of, program_of, value_of}
+use Rattle.win32_spec.specs.Opening.{first_main_word}
+use Rattle.vm_spec.specs.Image.{Image, image_of, with_image, with_result, moved_on, place_of, value_of}
 use Rattle.vm_spec.specs.Step.{Upcoming, LocalInstruction, CallInstruction, ImageFault, upcoming, low_byte}
-use Rattle.posix_spec.specs.Step.{is_kill, is_invalid_kill, is_same_number, exit_status}
+use Rattle.posix_spec.specs.Step.{is_kill, is_invalid_kill, exit_status}
 use Rattle.posix_spec.specs.Run.{PosixStep}
 use Rattle.layer_spec.specs.Rows.{main_index, is_record_word, sealed_word, gone_word, exit_word}
-use Rattle.layer_spec.specs.Evidence.{Shows, HasEvidence, IsOwnTurn, IsTurn, TellsExit}
+use Rattle.layer_spec.specs.Evidence.{Shows, HasEvidence, IsOwnTurn, TellsExit}
 use Rattle.w32_machine.specs.Contract.{DrivenStep}
 use Rattle.cyg_cli.specs.declared.layer.part.ThreadPart.{ThreadPart}
 use Rattle.cyg_cli.specs.declared.layer.step.Step.{Step}
 use Rattle.cyg_cli.specs.declared.layer.step.Step.TheVariants as step
 use Rattle.cyg_cli.specs.Entries.{turn_entry}
-use Rattle.cyg_cli.specs.Layer.{Did, goes_to, posted_at, first_code, can_take, answers, finds_target, checks_target, begins_kill, goes_on, acts, checked, wrote_exit, main_after}
+use Rattle.cyg_cli.specs.Layer.{Did, goes_to, posted_at, first_code, can_take, answers, finds_target, checks_target, begins_kill, goes_on, checked, main_after}
 use Rattle.cyg_cli.specs.ThreadPart.{call_of, Goes}
 use Rattle.cyg_cli.proofs.Bytes.{length-with_word, word_at-with_word}
 use Rattle.cyg_cli.proofs.Seats.{AreObjects, state_at, layer_at, main_part, MainWent, main_loads, main_exchanges, main_leaves, main_rests}

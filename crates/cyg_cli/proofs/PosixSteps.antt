@@ -1,6 +1,6 @@
 -- The steps of the POSIX machine in a run of the first path.
-use Rattle.std.proofs.Common.{◌≡◌, ◌≢◌, ℕ, ◌≤◌, ◌<◌, Bool, true, false, ◌&&◌, ◌||◌, nat_eq, List, [], ◌∷◌, Option, Some, None, refl, sym, ◌∙◌, ap, subst, arith}
-use Rattle.std.specs.Prelude.{ℤ, pos, negsuc, slice_get, unwrap_or, not}
+use Rattle.std.proofs.Common.{◌≡◌, ◌≢◌, ℕ, Bool, true, false, List, [], ◌∷◌, Some, None, refl, ◌∙◌, ap}
+use Rattle.std.specs.Prelude.{ℤ, pos, negsuc, slice_get, unwrap_or}
 use Rattle.std.proofs.lemmas.Bool.{eq-eqb, ne_eqb}
 use Rattle.w32_base.specs.declared.event.Answer.TheVariants.{Zero, Error}
 use Rattle.w32_base.specs.declared.event.Errno.TheVariants as errno
@@ -9,10 +9,10 @@ use Rattle.w32_base.specs.declared.event.Death.TheVariants as death
 use Rattle.w32_base.specs.declared.event.Event.TheVariants as event
 use Rattle.w32_base.specs.declared.instr.Instr.{Instr}
 use Rattle.w32_base.specs.declared.instr.Instr.TheVariants as instr
-use Rattle.vm_spec.specs.Image.{Image, value_of, program_of, with_result}
-use Rattle.vm_spec.specs.Step.{Upcoming, CallInstruction, upcoming}
-use Rattle.posix_spec.specs.State.{PosixState, Running, Zombie, opening_terminal}
-use Rattle.posix_spec.specs.Step.{posix_step, code_of, next_of, is_kill, is_invalid_kill, is_same_number, exit_status}
+use Rattle.vm_spec.specs.Image.{Image, program_of, with_result}
+use Rattle.vm_spec.specs.Step.{CallInstruction, upcoming}
+use Rattle.posix_spec.specs.State.{PosixState, Running, opening_terminal}
+use Rattle.posix_spec.specs.Step.{posix_step, next_of, is_kill, is_invalid_kill, is_same_number, exit_status}
 use Rattle.posix_spec.specs.Run.{PosixStep}
 use Rattle.cyg_cli.proofs.Shapes.{Stage, Runs, Died, Left, first_record, records_at, status_at}
 

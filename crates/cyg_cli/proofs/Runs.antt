@@ -7,8 +7,7 @@ use Rattle.w32_base.specs.declared.call.Call.{Call}
 use Rattle.w32_base.specs.declared.call.Reply.{Reply}
 use Rattle.w32_base.specs.declared.event.Event.{Event}
 use Rattle.w32_base.specs.declared.entry.End.{End}
-use Rattle.w32_base.specs.declared.entry.End.TheVariants.{Quiet}
-use Rattle.win32_spec.specs.Ready.{IsNextReady, IsQuiet}
+use Rattle.win32_spec.specs.Ready.{IsNextReady}
 use Rattle.win32_spec.specs.Schedule.{EndsBy, Settle}
 use Rattle.cyg_cli.specs.Entries.{turn_entry}
 use Rattle.cyg_cli.specs.declared.layer.part.ThreadPart.{ThreadPart}

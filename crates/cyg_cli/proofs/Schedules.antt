@@ -1,26 +1,24 @@
 -- A run by the parts of the threads is a run of the Win32 machine under the schedule of a script that settles.
-use Rattle.std.proofs.Common.{◌≡◌, ℕ, Bool, true, false, List, [], ◌∷◌, length, Option, Some, None, refl, sym, ◌∙◌, ap, subst, inl}
+use Rattle.std.proofs.Common.{◌≡◌, ℕ, Bool, true, false, List, [], ◌∷◌, Option, Some, None, refl, sym, ap, subst, inl}
 use Rattle.std.specs.Prelude.{MatchBool, nat_eq}
 use Rattle.w32_base.specs.declared.call.Call.{Call}
 use Rattle.w32_base.specs.declared.call.Reply.{Reply}
 use Rattle.w32_base.specs.declared.event.Event.{Event}
 use Rattle.w32_base.specs.declared.entry.Entry.{Entry}
 use Rattle.w32_base.specs.declared.entry.Outcome.TheVariants.{Step, Idle}
-use Rattle.w32_base.specs.declared.entry.Directive.TheVariants.{Turn}
 use Rattle.w32_base.specs.declared.entry.End.{End}
 use Rattle.w32_base.specs.declared.setup.Setup.{Setup}
 use Rattle.win32_spec.specs.State.{Win32State}
 use Rattle.win32_spec.specs.Lookup.{process_of}
-use Rattle.win32_spec.specs.Ready.{is_ready, IsNextReady}
 use Rattle.win32_spec.specs.Run.{ReadyTurn, Acts, is_live, DirectiveStep}
-use Rattle.win32_spec.specs.Schedule.{Position, Settle, ScheduledRun, GivesNext, GivesTurn, FollowsSchedule, opening_position}
+use Rattle.win32_spec.specs.Schedule.{Position, Settle, ScheduledRun, GivesNext}
 use Rattle.w32_machine.specs.Contract.{DrivenStep, PartGoes}
 use Rattle.cyg_cli.specs.Entries.{turn_entry}
 use Rattle.cyg_cli.specs.declared.layer.part.ThreadPart.{ThreadPart}
 use Rattle.cyg_cli.specs.declared.world.World.{World}
 use Rattle.cyg_cli.specs.ThreadPart.{call_of, Goes}
 use Rattle.cyg_cli.specs.ThreadPartLaws.{lengths_stay}
-use Rattle.cyg_cli.specs.World.{DrivenRun, RoundTurn, Turns, Drives, RunsToTheEnd}
+use Rattle.cyg_cli.specs.World.{DrivenRun, RoundTurn, RunsToTheEnd}
 use Rattle.cyg_cli.specs.RunOf.{IsRunOf}
 
 part_acts : (mid : Win32State) (w t : ℕ) (part next : ThreadPart) (setup : Setup) (answer : Reply) (event : Option Event) (new : Win32State)

@@ -1,5 +1,5 @@
 -- The Win32 state of a run by its parts, and what the turns of its two threads do to it.
-use Rattle.std.proofs.Common.{◌≡◌, ◌≢◌, ℕ, ◌*◌, ◌/◌, Bool, true, false, nat_eq, List, [], ◌∷◌, Option, Some, None, refl, sym, ◌∙◌, ap, subst, arith}
+use Rattle.std.proofs.Common.{◌≡◌, ◌≢◌, ℕ, ◌*◌, true, false, nat_eq, List, [], ◌∷◌, Option, Some, None, refl, ◌∙◌, ap, subst, arith}
 use Rattle.std.specs.Prelude.{MatchBool}
 use Rattle.std.proofs.lemmas.Bool.{ne_eqb, eq-eqb}
 use Rattle.w32_base.specs.declared.call.Call.{Call}
@@ -10,10 +10,10 @@ use Rattle.w32_base.specs.declared.event.Event.{Event}
 use Rattle.w32_base.specs.declared.own.Own.{Own}
 use Rattle.w32_base.specs.declared.setup.Setup.{Setup}
 use Rattle.win32_spec.specs.Objects.{load_reply, exchanged}
-use Rattle.win32_spec.specs.State.{Object, Section, ProcessObject, Life, Alive, Ended, Process, Thread, Win32State}
+use Rattle.win32_spec.specs.State.{Section, ProcessObject, Life, Alive, Ended, Process, Thread, Win32State}
 use Rattle.win32_spec.specs.Lookup.{no_memory, process_of, thread_in, object_number, with_end, with_posted, with_own}
 use Rattle.win32_spec.specs.Call.{CallStep, object_by, words_of, word_reply, after_exchange, with_words, process_named, exit_code_reply}
-use Rattle.win32_spec.specs.Run.{PostedStep, is_live, memory_of}
+use Rattle.win32_spec.specs.Run.{is_live}
 use Rattle.w32_machine.specs.Contract.{DrivenStep, PartGoes}
 use Rattle.cyg_cli.specs.declared.layer.part.ThreadPart.{ThreadPart}
 use Rattle.cyg_cli.specs.declared.layer.step.Step.{Step}

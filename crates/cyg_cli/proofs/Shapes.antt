@@ -1,28 +1,26 @@
 -- The states of both machines in a run of the first path, by a few parts.
-use Rattle.std.proofs.Common.{◌≡◌, ℕ, ◌+◌, ◌*◌, ◌/◌, ◌%◌, ◌^◌, ◌<◌, ◌≤◌, Bool, true, false, cond, nat_eq, List, [], ◌∷◌, drop, replicate, length, get_or, Option, Some, None, refl, sym, ◌∙◌, ap, subst, arith}
+use Rattle.std.proofs.Common.{◌≡◌, ℕ, ◌+◌, ◌<◌, ◌≤◌, Bool, true, false, cond, nat_eq, List, [], ◌∷◌, drop, replicate, length, Option, Some, None, refl, sym, ◌∙◌, ap, subst, arith}
 use Rattle.std.specs.Prelude.{IsSome, is_some, pos}
 use Rattle.std.proofs.lemmas.Bool.{eqb-true}
 use Rattle.w32_base.specs.declared.call.Call.{Call}
 use Rattle.w32_base.specs.declared.own.Own.{Own}
 use Rattle.w32_base.specs.declared.instr.Instr.{Instr}
-use Rattle.w32_base.specs.declared.instr.Action.{Action}
 use Rattle.w32_base.specs.declared.instr.Action.TheVariants.{Default}
 use Rattle.win32_spec.specs.State.{Life, Alive, Ended, Process, Win32State}
 use Rattle.win32_spec.specs.Handles.{is_listed}
 use Rattle.win32_spec.specs.Lookup.{is_alive, process_of}
 use Rattle.win32_spec.specs.Opening.{first_main_word, first_group_word}
-use Rattle.vm_spec.specs.Image.{Image, image_of, program_of, word_at, value_of}
-use Rattle.vm_spec.specs.Step.{Upcoming, CallInstruction, upcoming}
+use Rattle.vm_spec.specs.Image.{Image, image_of, program_of, word_at}
+use Rattle.vm_spec.specs.Step.{upcoming}
 use Rattle.posix_spec.specs.State.{Record, Numbered, PosixState, Running, Zombie, NoCall, record_of, opening_record, opening_terminal}
 use Rattle.posix_spec.specs.State.{Life as PosixLife}
-use Rattle.posix_spec.specs.Step.{exit_status, is_kill, is_zombie}
-use Rattle.layer_spec.specs.Rows.{sealed_word, gone_word, exit_word, kind_of, is_record_word, low_of, image_no, report_of, execd_of}
+use Rattle.posix_spec.specs.Step.{exit_status, is_kill}
+use Rattle.layer_spec.specs.Rows.{sealed_word, gone_word, exit_word, kind_of, is_record_word, low_of, report_of, execd_of}
 use Rattle.layer_spec.specs.Decodes.{Decodes, ShowsRecord, HoldsRecord, main_word, saved_in, actions_from, children_in, children_from, is_child_of}
 use Rattle.cyg_cli.specs.declared.layer.step.Step.{Step}
 use Rattle.cyg_cli.specs.declared.layer.step.Step.TheVariants as step
-use Rattle.cyg_cli.specs.declared.world.World.{World}
 use Rattle.cyg_cli.specs.Layer.{posted_at}
-use Rattle.cyg_cli.proofs.Seats.{state_at, layer_at, main_part, starter_part}
+use Rattle.cyg_cli.proofs.Seats.{state_at, layer_at}
 
 -- whether the process runs, has died, or is gone from its row
 pub data Stage : Type 0 where
@@ -256,7 +254,7 @@ decodes_running a b tail exit hp life lp own p e f =
       present = rw f (of_row (λ row. is_record_word (main_word s row) ≡ is_some (record_of rs (row + 1))) refl);
       shown = λ row r low high. of_row (λ row. record_of p.records (row + 1) ≡ Some r → ShowsRecord s p row r)
           (λ is. subst (λ x. ShowsRecord s p 1 x) (the_record (first_record Running (image_of own)) r (ap (λ xs. record_of xs 2) (sym f) ∙ is))
-              (shows_running a b tail exit hp life lp own p e f))
+          (shows_running a b tail exit hp life lp own p e f))
           row low high;
     }
 
@@ -271,7 +269,7 @@ decodes_zombie a b tail exit hp life lp own status p l f =
       present = rw f (of_row (λ row. is_record_word (main_word s row) ≡ is_some (record_of rs (row + 1))) word);
       shown = λ row r low high. of_row (λ row. record_of p.records (row + 1) ≡ Some r → ShowsRecord s p row r)
           (λ is. subst (λ x. ShowsRecord s p 1 x) (the_record (first_record (Zombie status) (image_of own)) r (ap (λ xs. record_of xs 2) (sym f) ∙ is))
-              (shows_zombie a b tail exit hp life lp own status p l))
+          (shows_zombie a b tail exit hp life lp own status p l))
           row low high;
     }
 

@@ -1,18 +1,16 @@
 -- What each turn of the host's starter keeps and shows.
 use Rattle.std.proofs.Common.{◌≡◌, ℕ, Bool, true, false, List, [], ◌∷◌, Option, Some, None, refl, sym, ◌∙◌, ap, subst, arith}
-use Rattle.std.specs.Prelude.{pos, MatchOption}
+use Rattle.std.specs.Prelude.{MatchOption}
 use Rattle.w32_base.specs.declared.call.Call.{Call}
 use Rattle.w32_base.specs.declared.call.Call.TheVariants as call
 use Rattle.w32_base.specs.declared.call.Reply.{Reply}
 use Rattle.w32_base.specs.declared.call.Reply.TheVariants as reply
 use Rattle.w32_base.specs.declared.event.Event.{Event}
-use Rattle.w32_base.specs.declared.event.Event.TheVariants as event
 use Rattle.w32_base.specs.declared.entry.Outcome.TheVariants as outcome
 use Rattle.w32_base.specs.declared.instr.Instr.{Instr}
 use Rattle.w32_base.specs.declared.own.Own.{Own}
 use Rattle.w32_base.specs.declared.setup.Setup.{Setup}
-use Rattle.win32_spec.specs.Objects.{load_reply}
-use Rattle.win32_spec.specs.State.{Life, Alive, Ended, ProcessObject, Win32State}
+use Rattle.win32_spec.specs.State.{Life, Ended, Win32State}
 use Rattle.win32_spec.specs.Lookup.{no_memory}
 use Rattle.win32_spec.specs.Call.{process_named}
 use Rattle.vm_spec.specs.Image.{image_of}
@@ -26,7 +24,7 @@ use Rattle.cyg_cli.specs.Entries.{turn_entry}
 use Rattle.cyg_cli.specs.Layer.{posted_at, starter_after}
 use Rattle.cyg_cli.specs.ThreadPart.{call_of, Goes}
 use Rattle.cyg_cli.proofs.Seats.{AreObjects, Carried, state_at, starter_part, StarterWent, starter_carried, starter_stays, starter_rests, host_load, host_waits, host_asks, host_process}
-use Rattle.cyg_cli.proofs.Shapes.{Stage, Runs, Died, Left, words_at, StarterAt}
+use Rattle.cyg_cli.proofs.Shapes.{Stage, Left, words_at, StarterAt}
 use Rattle.cyg_cli.proofs.PosixSteps.{posix_of, host_step}
 use Rattle.cyg_cli.proofs.MainTurns.{load_is}
 

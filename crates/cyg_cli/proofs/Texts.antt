@@ -1,13 +1,13 @@
 -- A script of the first form is far below the limit on the bytes of a script.
-use Rattle.std.proofs.Common.{◌≡◌, ℕ, ◌+◌, ◌*◌, ◌≤◌, ◌<◌, ◌^◌, pos, Bool, true, false, ◌&&◌, List, [], ◌∷◌, ◌++◌, length, refl, sym, ◌∙◌, ap, subst, arith, length-append}
-use Rattle.std.specs.Prelude.{map, flat_map, codes, nat_le, nat_eq}
+use Rattle.std.proofs.Common.{◌≡◌, ℕ, ◌+◌, ◌*◌, ◌≤◌, ◌<◌, pos, Bool, true, false, ◌&&◌, List, [], ◌∷◌, ◌++◌, length, refl, ap, arith, length-append}
+use Rattle.std.specs.Prelude.{map, codes, nat_le, nat_eq}
 use Rattle.std.specs.Fmt.{decimal}
 use Rattle.std.proofs.lemmas.Fmt.{length-decimal-le}
 use Rattle.std.proofs.lemmas.Bool.{leb-true}
 use Rattle.w32_base.specs.declared.instr.Instr.{Instr}
 use Rattle.w32_base.specs.declared.instr.Instr.TheVariants.{GetPid, Kill, Exit}
 use Rattle.w32_base.specs.declared.instr.Operand.TheVariants.{Number}
-use Rattle.layer_spec.specs.FirstForm.{instr_line, is_first_form_instr, is_first_form_code, is_exit, first_lines, last_lines, script_lines, text_of, IsFirstForm}
+use Rattle.layer_spec.specs.FirstForm.{instr_line, is_first_form_instr, is_first_form_code, is_exit, last_lines, text_of, IsFirstForm}
 
 and_left : (a b : Bool) → (a && b) ≡ true → a ≡ true
 and_left true b e = refl

@@ -1,5 +1,5 @@
 -- What the threads of the layer do on the first path, one turn after another.
-use Rattle.std.specs.Prelude.{◌≡◌, ℕ, ◌+◌, ◌-◌, ◌*◌, ◌^◌, ℤ, pos, negsuc, Bool, true, false, ◌&&◌, ◌||◌, not, nat_eq, nat_lt, nat_le, if◌then◌else◌, List, [], ◌∷◌, length, Option, Some, None}
+use Rattle.std.specs.Prelude.{ℕ, ◌-◌, ℤ, pos, negsuc, Bool, ◌&&◌, ◌||◌, not, nat_eq, nat_lt, nat_le, if◌then◌else◌, List, [], ◌∷◌, length, Option, Some, None}
 use Rattle.w32_base.specs.declared.call.Call.{Call}
 use Rattle.w32_base.specs.declared.call.Call.TheVariants as call
 use Rattle.w32_base.specs.declared.call.Reply.{Reply}
@@ -14,8 +14,7 @@ use Rattle.w32_base.specs.declared.instr.Instr.{Instr}
 use Rattle.w32_base.specs.declared.instr.Instr.TheVariants as instr
 use Rattle.w32_base.specs.declared.own.Own.{Own}
 use Rattle.w32_base.specs.declared.setup.Program.{Program}
-use Rattle.w32_base.specs.declared.setup.Setup.{Setup}
-use Rattle.vm_spec.specs.Image.{Image, image_of, with_image, place_of, value_of, with_result}
+use Rattle.vm_spec.specs.Image.{image_of, with_image, place_of, value_of, with_result}
 use Rattle.vm_spec.specs.Step.{Upcoming, CallInstruction, upcoming, low_byte}
 use Rattle.posix_spec.specs.Step.{is_invalid_kill, is_same_number}
 use Rattle.layer_spec.specs.Rows.{main_index, is_running_word, is_zombie_word, is_record_word, sealed_word, gone_word, parent_of, exit_word}

@@ -1,20 +1,16 @@
 -- Runs of the machine with the parts of its threads.
-use Rattle.std.specs.Prelude.{◌≡◌, ℕ, Bool, nat_eq, List, [], ◌∷◌, length, Option, Some, None, MatchBool, slice_get}
+use Rattle.std.specs.Prelude.{◌≡◌, ℕ, nat_eq, List, [], ◌∷◌, length, Option, Some, MatchBool, slice_get}
 use Rattle.w32_base.specs.declared.call.Call.{Call}
 use Rattle.w32_base.specs.declared.call.Reply.{Reply}
 use Rattle.w32_base.specs.declared.event.Event.{Event}
-use Rattle.w32_base.specs.declared.entry.Directive.TheVariants as directive
-use Rattle.w32_base.specs.declared.entry.Outcome.TheVariants as outcome
 use Rattle.w32_base.specs.declared.entry.Entry.{Entry}
 use Rattle.w32_base.specs.declared.entry.End.{End}
 use Rattle.w32_base.specs.declared.setup.Program.{Program}
 use Rattle.w32_base.specs.declared.setup.Setup.{Setup}
-use Rattle.win32_spec.specs.State.{Win32State}
 use Rattle.win32_spec.specs.Ready.{IsNextReady}
 use Rattle.win32_spec.specs.Opening.{IsOpening}
 use Rattle.win32_spec.specs.Schedule.{Settle, EndsBy}
 use Rattle.w32_machine.specs.Contract.{DrivenStep}
-use Rattle.cyg_cli.specs.declared.layer.part.ThreadPart.{ThreadPart}
 use Rattle.cyg_cli.specs.declared.layer.step.Step.TheVariants as step
 use Rattle.cyg_cli.specs.declared.world.World.{World}
 use Rattle.cyg_cli.specs.Entries.{turn_entry}

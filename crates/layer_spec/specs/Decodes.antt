@@ -1,7 +1,6 @@
 -- When a state of the modelled Win32 shows the processes of the POSIX machine: by the rows of the section, and by the
 -- memory of the live processes that the rows name.
 use Rattle.std.specs.Prelude.{◌≡◌, ℕ, ◌+◌, ◌*◌, ◌%◌, ◌≤◌, Bool, false, true, nat_eq, if◌then◌else◌, List, [], ◌∷◌, drop, suc, slice_index_or, Option, Some, None, is_some, IsSome, unwrap_or}
-use Rattle.w32_base.specs.declared.own.Own.{Own}
 use Rattle.w32_base.specs.declared.instr.Action.{Action}
 use Rattle.w32_base.specs.declared.instr.Action.TheVariants.{Default, Ignore, Handler}
 use Rattle.win32_spec.specs.State.{Process, PlacedModule, Win32State}

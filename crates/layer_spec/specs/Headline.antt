@@ -1,7 +1,7 @@
 -- What the journal of a run is: the entries are steps of the modelled Win32, their events are steps of the POSIX
 -- machine, each entry keeps its discipline and has its evidence, and after each entry the rows and the memory of the
 -- live processes show the POSIX machine's processes.
-use Rattle.std.specs.Prelude.{◌≡◌, ℕ, List, [], ◌∷◌, map, length, Option, Some, MatchOption, slice_get}
+use Rattle.std.specs.Prelude.{◌≡◌, ℕ, List, [], ◌∷◌, map, length, Some, MatchOption, slice_get}
 use Rattle.w32_base.specs.declared.instr.Instr.{Instr}
 use Rattle.w32_base.specs.declared.entry.Entry.{Entry}
 use Rattle.w32_base.specs.declared.entry.End.{End}

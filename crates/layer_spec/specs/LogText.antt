@@ -1,5 +1,5 @@
 -- The text of a log in view `calls`.
-use Rattle.std.specs.Prelude.{◌≡◌, ℕ, ◌+◌, ℤ, Bool, true, false, nat_eq, List, [], ◌∷◌, ◌++◌, zero, suc, flat_map, filter, codes, Option, Some, None, if◌then◌else◌}
+use Rattle.std.specs.Prelude.{ℕ, Bool, true, false, nat_eq, List, [], ◌∷◌, ◌++◌, zero, suc, flat_map, codes, Option, Some, None, if◌then◌else◌}
 use Rattle.std.specs.Fmt.{decimal, signed_decimal}
 use Rattle.w32_base.specs.declared.event.Answer.{Answer}
 use Rattle.w32_base.specs.declared.event.Answer.TheVariants.{Zero, Error}

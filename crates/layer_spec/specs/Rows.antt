@@ -2,7 +2,7 @@
 --   main word: pending signals, or in a zombie the status (from bit 0), image (31), kind (50), report (53), execd (55), stop signal (56)
 --   group word: raw parent (0), group (12), session (24), terminal (36)
 --   exit word: status (0), image (9), fault (28)
-use Rattle.std.specs.Prelude.{◌≡◌, ℕ, ◌+◌, ◌-◌, ◌*◌, ◌/◌, ◌%◌, ◌^◌, ◌<◌, ◌≤◌, Bool, ◌&&◌, nat_eq, nat_le, List, slice_index}
+use Rattle.std.specs.Prelude.{ℕ, ◌+◌, ◌-◌, ◌*◌, ◌/◌, ◌%◌, ◌^◌, Bool, ◌&&◌, nat_eq, nat_le}
 
 -- the places of a row's words in the section
 abbrev pub main_index : ℕ → ℕ

@@ -1,5 +1,5 @@
 -- The state in which a run of a program begins.
-use Rattle.std.specs.Prelude.{ℕ, replicate}
+use Rattle.std.specs.Prelude.{replicate}
 use Rattle.w32_base.specs.declared.setup.Program.{Program}
 use Rattle.vm_spec.specs.Image.{Image}
 use Rattle.posix_spec.specs.State.{PosixState, opening}

@@ -1,4 +1,4 @@
-use Rattle.std.proofs.Common.{◌≡◌, ◌∙◌}
+use Rattle.std.proofs.Common.{◌∙◌}
 use Rattle.cyg_cli.proofs.Runs.{part_is}
 use Rattle.cyg_cli.proofs.run.open.Goals as goal
 

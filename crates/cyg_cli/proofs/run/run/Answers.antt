@@ -1,4 +1,4 @@
-use Rattle.std.proofs.Common.{◌≡◌, ◌∷◌, [], ◌∙◌, ap, length, subst, sym, arith, ℕ}
+use Rattle.std.proofs.Common.{◌≡◌, ◌∷◌, [], ap, length, subst, sym, arith, ℕ}
 use Rattle.win32_spec.specs.Schedule.{EndsBy, Settle}
 use Rattle.w32_base.specs.declared.entry.End.TheVariants.{Quiet}
 use Rattle.cyg_cli.specs.World.{RunsToTheEnd}

@@ -1,6 +1,3 @@
-use Rattle.std.proofs.Common.{◌≡◌, ◌≤◌, ℕ, List, [], length}
-use Rattle.cyg_cli.specs.declared.world.World.{World}
-use Rattle.cyg_cli.specs.World.{IsWorldOpening, DrivenRun}
 use Rattle.cyg_cli.proofs.Runs.{IsSoFar}
 use Rattle.cyg_cli.proofs.run.run.Given as goal
 
