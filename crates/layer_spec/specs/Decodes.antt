@@ -35,8 +35,8 @@ IsLife m Running = kind_of m ≡ kind_running
 IsLife m (Stopped signal) = (kind_of m ≡ kind_stopped) × (stop_of m ≡ signal)
 IsLife m (Zombie status) = (kind_of m ≡ kind_zombie) × (low_of m ≡ status)
 
--- The cygheap of a process keeps a flag at 2, the mask at 4, the mask from before at 8, and from 16 on the actions of signals 1 to
--- 31 in four bytes each: the kind, whether a call begins again, and the handler's place in two bytes.
+-- The cygheap of a process keeps a flag at 2, the mask at 4, the mask from before at 8, and from 16 on the actions of
+-- signals 1 to 31 in four bytes each: the kind, whether a call begins again, and the handler's place in two bytes.
 abbrev pub action_of : ℕ → ℕ → ℕ → Action
 action_of kind restart target = if nat_eq kind 0 then Default else if nat_eq kind 1 then Ignore else Handler target (nat_eq restart 1)
 
