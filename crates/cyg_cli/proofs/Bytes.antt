@@ -1,7 +1,8 @@
 -- Numbers in four bytes of a list.
-use Rattle.std.proofs.Common.{◌≡◌, ℕ, ◌+◌, ◌-◌, ◌≤◌, ◌<◌, List, ◌++◌, length, take, drop, get_or, sym, ◌∙◌, ap, arith, length-append, length-take, length-drop}
-use Rattle.std.proofs.lemmas.List.{length-take-le, get_or-append_right, get_or-take, get_or-drop}
-use Rattle.std.specs.Int.{w32, to_le_bytes}
+use Rattle.std.proofs.Common.{◌≡◌, ℕ, ◌+◌, ◌-◌, ◌≤◌, ◌<◌, ◌^◌, List, ◌++◌, length, take, drop, get_or, sym, ◌∙◌, ap, arith, length-append, length-take, length-drop}
+use Rattle.std.proofs.lemmas.List.{length-take-le, drop-append-le, drop_at, get_or-append_right, get_or-take, get_or-drop}
+use Rattle.std.proofs.lemmas.Nat.{from_le_bytes-to_le_bytes_4}
+use Rattle.std.specs.Int.{w32, to_le_bytes, from_le_bytes}
 use Rattle.vm_spec.specs.Image.{word_at, with_word}
 
 pub length-with_word : (xs : List ℕ) (place n : ℕ) → place + 4 ≤ length xs → length (with_word xs place n) ≡ length xs
@@ -28,3 +29,14 @@ pub word_at-with_word : (xs : List ℕ) (place n q : ℕ) → place + 4 ≤ leng
 word_at-with_word xs place n q h l =
     word_at-bytes (with_word xs place n) xs q (λ k m. get_or-take 4 (drop q (with_word xs place n)) k 0 m ∙ get_or-drop q (with_word xs place n) k 0
     ∙ byte_after xs place n (q + k) h (omega arith) ∙ sym (get_or-drop q xs k 0) ∙ sym (get_or-take 4 (drop q xs) k 0 m))
+
+-- what is written is read there
+pub word_at-with_word_same : (xs : List ℕ) (place n : ℕ) → place + 4 ≤ length xs → n < 2 ^ 32 → word_at (with_word xs place n) place ≡ n
+unfolding word_at with_word
+word_at-with_word_same xs place n h fits =
+    let front : length (take place xs) ≡ place = length-take-le place xs (omega arith) in
+    let room : place ≤ length (take place xs ++ to_le_bytes w32 n) = omega (arith, front, length-append (take place xs) (to_le_bytes w32 n)) in
+    ap (λ bytes. from_le_bytes w32 (take 4 bytes))
+    (drop-append-le place (take place xs ++ to_le_bytes w32 n) (drop (place + 4) xs) room
+    ∙ ap (λ bytes. bytes ++ drop (place + 4) xs) (drop_at (take place xs) (to_le_bytes w32 n) place front))
+    ∙ from_le_bytes-to_le_bytes_4 n fits

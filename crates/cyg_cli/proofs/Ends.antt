@@ -2,14 +2,16 @@
 use Rattle.std.proofs.Common.{◌≡◌, ℕ, List, Option, Some, None, inl, inr, subst, arith}
 use Rattle.std.specs.Prelude.{IfSome}
 use Rattle.w32_base.specs.declared.entry.Entry.{Entry}
+use Rattle.w32_base.specs.declared.entry.End.TheVariants.{Quiet}
 use Rattle.w32_base.specs.declared.instr.Instr.{Instr}
 use Rattle.w32_base.specs.declared.setup.Setup.{Setup}
 use Rattle.cyg_io.specs.Counts.{RoseBy}
 use Rattle.cyg_io.specs.Source.{Draws}
 use Rattle.first_form.specs.OneProgram.{IsOneProgram}
 use Rattle.layer_spec.specs.FirstForm.{IsFirstForm}
-use Rattle.cyg_cli.specs.Top.{Outside, run_calls, Ends, Refused, RefusedInPart, Logged, LoggedInPart, NoMemory, Refuses, IsUnbuilt}
-use Rattle.cyg_cli.specs.TopParts.{IsRefusal, IsLogging}
+use Rattle.layer_spec.specs.Headline.{Headline}
+use Rattle.cyg_cli.specs.Top.{Outside, run_calls, Ends, Refused, RefusedInPart, Logged, LoggedInPart, NoMemory, Refuses, Runs, IsSettled, IsUnbuilt}
+use Rattle.cyg_cli.specs.TopParts.{IsRefusal, IsLogOf, IsLogging}
 use Rattle.cyg_cli.proofs.Texts.{first_form_short}
 use Rattle.cyg_cli.proofs.Headlines.{headline_of}
 
@@ -27,11 +29,28 @@ pub refusal_ends : (words : List (List ℕ)) (before after : Outside) (status : 
 refusal_ends words before after status entries w r (inl (s, app, e)) = Refused w r app s e
 refusal_ends words before after status entries w r (inr (s, app, rose, e)) = RefusedInPart w r app rose s e
 
-pub logging_ends : (words : List (List ℕ)) (before after : Outside) (status : ℕ) (entries : List Entry) (setup : Setup) (budget : ℕ) (code : List Instr)
-    → words ≡ run_calls → RoseBy 1 before.ends after.ends → IfSome before.left (λ text. IsFirstForm text budget code) → IsOneProgram setup budget code
+pub logging_ends : (words : List (List ℕ)) (before after : Outside) (status : ℕ) (entries : List Entry) (setup : Setup) (text : List ℕ) (budget : ℕ) (code : List Instr)
+    → words ≡ run_calls → RoseBy 1 before.ends after.ends → IfSome before.left (λ left. text ≡ left) → IsFirstForm text budget code → IsOneProgram setup budget code
     → IsLogging setup before.held after.held before.write_faults after.write_faults status entries → Ends words before after status entries
-logging_ends words before after status entries setup budget code w ended text script (inr (s, same, e)) = NoMemory w same s e
-logging_ends words before after status entries setup budget code w ended text script (inl (end, run, parts, inl (s, app, e))) =
-    Logged end w (record { budget = budget; code = code; setup = setup; ended = ended; text = text; script = script; run = run; headline = headline_of setup entries end budget code parts script }) app s
-logging_ends words before after status entries setup budget code w ended text script (inl (end, run, parts, inr (s, app, rose, e))) =
-    LoggedInPart end w (record { budget = budget; code = code; setup = setup; ended = ended; text = text; script = script; run = run; headline = headline_of setup entries end budget code parts script }) app rose s
+logging_ends words before after status entries setup text budget code w ended told form script (inr (s, same, e)) = NoMemory w same s e
+logging_ends words before after status entries setup text budget code w ended told form script (inl (end, run, parts, log)) = by_log log
+  where
+    has : (h : Headline setup entries end) × (end ≡ Quiet → IsSettled h.posix_last)
+    has = headline_of setup entries end budget code parts script form.instructions form.code_in_range
+
+    ran : Runs before after entries end
+    ran = record {
+      budget = budget;
+      code = code;
+      setup = setup;
+      ended = ended;
+      text = of_left (λ x. IsFirstForm x budget code) before.left text told form;
+      script = script;
+      run = run;
+      headline = has.0;
+      settled = has.1;
+    }
+
+    by_log : IsLogOf entries end before.held after.held before.write_faults after.write_faults status entries → Ends words before after status entries
+    by_log (inl (s, app, e)) = Logged end w ran app s
+    by_log (inr (s, app, rose, e)) = LoggedInPart end w ran app rose s

@@ -1,12 +1,16 @@
 -- A run by the parts of the threads has the headline.
-use Rattle.std.proofs.Common.{◌≡◌, ℕ, ◌*◌, Bool, true, false, cond, nat_eq, List, [], ◌∷◌, map, replicate, Option, Some, None, refl, sym, ◌∙◌, ap, subst, arith, inl, inr, ◌⊎◌, zero, suc}
+use Rattle.std.proofs.Common.{◌≡◌, ℕ, ◌*◌, Bool, true, false, cond, nat_eq, List, [], ◌∷◌, map, replicate, Option, Some, None, refl, sym, ◌∙◌, ap, subst, arith, inl, inr, ◌⊎◌, zero, suc, length, ◌≤◌}
 use Rattle.std.specs.Prelude.{MatchBool, MatchOption}
 use Rattle.std.proofs.lemmas.Bool.{eqb-true, eqb-false}
 use Rattle.w32_base.specs.declared.call.Call.{Call}
+use Rattle.w32_base.specs.declared.call.Call.TheVariants as call
 use Rattle.w32_base.specs.declared.call.Reply.{Reply}
 use Rattle.w32_base.specs.declared.event.Event.{Event}
 use Rattle.w32_base.specs.declared.entry.Entry.{Entry}
+use Rattle.w32_base.specs.declared.entry.Directive.{Directive}
+use Rattle.w32_base.specs.declared.entry.Directive.TheVariants.{Turn}
 use Rattle.w32_base.specs.declared.entry.End.{End}
+use Rattle.w32_base.specs.declared.entry.End.TheVariants.{Quiet}
 use Rattle.w32_base.specs.declared.instr.Instr.{Instr}
 use Rattle.w32_base.specs.declared.own.Own.{Own}
 use Rattle.w32_base.specs.declared.setup.Program.{Program}
@@ -14,28 +18,35 @@ use Rattle.w32_base.specs.declared.setup.Setup.{Setup}
 use Rattle.win32_spec.specs.State.{Life, Alive, Ended, Process, Thread, Win32State}
 use Rattle.win32_spec.specs.Lookup.{is_alive, process_of, process_in, thread_in}
 use Rattle.win32_spec.specs.Opening.{opening_words, opening_memory}
+use Rattle.win32_spec.specs.Call.{CallStep}
+use Rattle.win32_spec.specs.Ready.{is_ready, IsQuiet}
 use Rattle.win32_spec.specs.Run.{is_live}
-use Rattle.vm_spec.specs.Image.{word_at}
+use Rattle.win32_spec.specs.Schedule.{Settle, EndsBy}
+use Rattle.vm_spec.specs.Image.{image_of, word_at}
 use Rattle.posix_spec.specs.State.{PosixState, opening_record}
 use Rattle.posix_spec.specs.Opening.{opening_of, new_image}
 use Rattle.posix_spec.specs.Run.{PosixStep}
 use Rattle.layer_spec.specs.Rows.{image_no}
 use Rattle.layer_spec.specs.Decodes.{Decodes, main_word}
-use Rattle.layer_spec.specs.Evidence.{KeepsDiscipline, HasEvidence, is_live_word}
+use Rattle.layer_spec.specs.FirstForm.{is_first_form_code}
+use Rattle.layer_spec.specs.Evidence.{Seen, KeepsDiscipline, HasEvidence, is_live_word, is_create, is_claim, ends_process, was_ended}
 use Rattle.layer_spec.specs.Headline.{codes_of, HeadlineStep, HeadlineRun, Headline}
 use Rattle.w32_machine.specs.Contract.{DrivenStep}
 use Rattle.first_form.specs.OneProgram.{IsOneProgram}
+use Rattle.cyg_cli.specs.declared.layer.part.ThreadPart.{ThreadPart}
+use Rattle.cyg_cli.specs.declared.layer.step.Step.{Step}
 use Rattle.cyg_cli.specs.declared.layer.step.Step.TheVariants as step
 use Rattle.cyg_cli.specs.declared.world.World.{World}
 use Rattle.cyg_cli.specs.Entries.{turn_entry}
 use Rattle.cyg_cli.specs.Layer.{posted_at, first_code}
 use Rattle.cyg_cli.specs.ThreadPart.{call_of, Goes}
+use Rattle.cyg_cli.specs.Top.{IsSettled}
 use Rattle.cyg_cli.specs.World.{Turns, DrivenRun, IsWorldOpening, RunsToTheEnd}
 use Rattle.cyg_cli.proofs.Schedules.{round_at, round_given, round_step}
 use Rattle.cyg_cli.proofs.Seats.{AreObjects, even_objects, state_at, host_at, layer_at, main_part, starter_part}
-use Rattle.cyg_cli.proofs.Shapes.{Stage, Runs, Died, Left, Shape, words_at, machine_at, posix_at, IsFirst, StarterAt, IsSmall, Fits, of_row, sealed_kind, decodes_at}
+use Rattle.cyg_cli.proofs.Shapes.{Stage, Runs, Died, Left, Shape, words_at, machine_at, posix_at, records_at, IsFirst, MainAt, StarterAt, IsSmall, Fits, of_row, sealed_kind, decodes_at}
 use Rattle.cyg_cli.proofs.MainTurns.{IsZeros, Before, Kept, main_keeps, far_word}
-use Rattle.cyg_cli.proofs.StarterTurns.{Around, StarterKept, starter_keeps}
+use Rattle.cyg_cli.proofs.StarterTurns.{StarterBefore, StarterKept, starter_keeps}
 
 -- which threads there are
 
@@ -104,59 +115,109 @@ lives_on a b tail (Died status) exit hp life lp own y small keeps running live =
     let never : false ≡ true = rw (sealed_kind status small) at running in cc
 lives_on a b tail (Left status) exit hp life lp own y small keeps running live = let never : false ≡ true = running in cc
 
-discipline : (a b : ℕ) (tail : List ℕ) (x y : Shape) (e : Entry) → IsZeros tail → IsSmall x.stage → (x.stage ≡ Runs → x.life ≡ Alive → y.life ≡ Alive)
-    → KeepsDiscipline 1 (machine_at a b tail x) e (machine_at a b tail y)
-discipline a b tail x y e zeros small keeps = record {
+-- a call that has a step makes no process and claims no row
+record IsPlain (called : Call) : Type 0 where
+  create : is_create (Some called) ≡ false
+  claim : is_claim (Some called) ≡ false
+
+plain_call : (s : Win32State) (w t : ℕ) (called : Call) (answer : Reply) (new : Win32State) → CallStep s w t called answer new → IsPlain called
+plain_call s w t (call.Create program handles) answer new c = absurd c
+plain_call s w t (call.FetchAdd h i n) answer new c = absurd c
+plain_call s w t _ answer new c = record { create = refl; claim = refl }
+
+plain_turn : (s : Win32State) (slot t : ℕ) (part : ThreadPart) (setup : Setup) (called : Call) (answer : Reply) (event : Option Event) (next : ThreadPart) (new : Win32State)
+    → DrivenStep Goes call_of s slot t part setup called answer event next new → IsPlain called
+plain_turn s slot t part setup called answer event next new d =
+    subst IsPlain (sym d.carried_out) (plain_call s d.process.number t d.thread.posted answer d.mid d.posted.step)
+
+-- what stays in a run
+record Around : Type 0 where
+  a : ℕ
+  b : ℕ
+  objects : AreObjects a b
+  tail : List ℕ
+  zeros : IsZeros tail
+  long : length tail ≡ 11997
+  setup : Setup
+  short : length (first_code setup.programs) ≤ 4000
+
+abbrev code_of : Around → List Instr
+code_of g = first_code g.setup.programs
+
+abbrev machine_of : Around → Shape → Win32State
+machine_of g x = machine_at g.a g.b g.tail x
+
+-- the turn of a call that is plain
+record IsPlainTurn (e : Entry) : Type 0 where
+  slot : ℕ
+  thread : ℕ
+  called : Call
+  turn : e.directive ≡ Turn slot thread
+  call_is : e.call ≡ Some called
+  plain : IsPlain called
+
+discipline : (g : Around) (past : List Seen) (p : PosixState) (x y : Shape) (e : Entry) → IsPlainTurn e → IsSmall x.stage → (x.stage ≡ Runs → x.life ≡ Alive → y.life ≡ Alive)
+    → KeepsDiscipline (code_of g ∷ []) 1 past (machine_of g x) p e (machine_of g y)
+discipline g past p x y e t small keeps = record {
+  creates = λ is. let never : false ≡ true = sym t.plain.create ∙ ap is_create (sym t.call_is) ∙ is in cc;
+  claims = λ is. let never : false ≡ true = sym t.plain.claim ∙ ap is_claim (sym t.call_is) ∙ is in cc;
   claimed = λ _. refl;
-  above = λ i l. far_word tail y.stage y.exit zeros i (omega arith) ∙ sym (far_word tail x.stage x.exit zeros i (omega arith));
-  lives = λ _ row low high. of_row (LivesOn (machine_at a b tail x) (machine_at a b tail y))
-      (lives_on a b tail x.stage x.exit (posted_at x.starter) x.life (posted_at x.main) x.own y small keeps) row low high;
+  above = λ i l. far_word g.tail y.stage y.exit g.zeros i (omega arith) ∙ sym (far_word g.tail x.stage x.exit g.zeros i (omega arith));
+  lives = λ _ row low high. of_row (LivesOn (machine_of g x) (machine_of g y))
+      (lives_on g.a g.b g.tail x.stage x.exit (posted_at x.starter) x.life (posted_at x.main) x.own y small keeps) row low high;
 }
 
 -- a world that stands where a shape says
-record Stands (a b : ℕ) (tail : List ℕ) (x : Shape) (w : World) : Type 0 where
-  machine : w.machine ≡ machine_at a b tail x
+record Stands (g : Around) (x : Shape) (w : World) : Type 0 where
+  machine : w.machine ≡ machine_of g x
   starter : w.starter ≡ starter_part x.starter
   main : w.main ≡ main_part x.main
 
 -- what an entry leads to
-record Next (a b : ℕ) (tail : List ℕ) (setup : Setup) (x : Shape) (e : Entry) (new : World) : Type 0 where
+record Next (g : Around) (past : List Seen) (x : Shape) (e : Entry) (new : World) : Type 0 where
   shape : Shape
-  fits : Fits (first_code setup.programs) shape
-  stands : Stands a b tail shape new
-  event : MatchOption e.event (posix_at shape ≡ posix_at x) (λ event. PosixStep (first_code setup.programs ∷ []) (posix_at x) event (posix_at shape))
-  evidence : HasEvidence (machine_at a b tail x) e
+  fits : Fits (code_of g) shape
+  stands : Stands g shape new
+  event : MatchOption e.event (posix_at shape ≡ posix_at x) (λ event. PosixStep (code_of g ∷ []) (posix_at x) event (posix_at shape))
+  evidence : HasEvidence past (machine_of g x) e
+  turn : IsPlainTurn e
   lives : x.stage ≡ Runs → x.life ≡ Alive → shape.life ≡ Alive
 
-starter_next : (a b : ℕ) → AreObjects a b → (tail : List ℕ) (setup : Setup) (x : Shape) → Fits (first_code setup.programs) x → (new : World)
+-- The parts' turns.
+
+starter_next : (g : Around) (past : List Seen) → was_ended past 2 ≡ false → (x : Shape) → Fits (code_of g) x → (new : World)
     → (called : Call) (answer : Reply) (event : Option Event) → new.main ≡ main_part x.main
-    → DrivenStep Goes call_of (machine_at a b tail x) 0 1 (starter_part x.starter) setup called answer event new.starter new.machine
-    → Next a b tail setup x (turn_entry 0 1 called answer event) new
-starter_next a b o tail setup x f new called answer event rest d =
-    let around : Around = record { a = a; b = b; objects = o; tail = tail; setup = setup; exit = x.exit; own = x.own; main = x.main; codes = first_code setup.programs ∷ [] } in
-    let k : StarterKept around x.starter x.stage x.life x.came called answer event new.starter new.machine =
-    starter_keeps around x.starter x.stage x.life x.came f.ended f.starter called answer event new.starter new.machine d in
+    → DrivenStep Goes call_of (machine_of g x) 0 1 (starter_part x.starter) g.setup called answer event new.starter new.machine
+    → Next g past x (turn_entry 0 1 called answer event) new
+starter_next g past calm x f new called answer event rest d =
+    let at : StarterBefore = record { a = g.a; b = g.b; objects = g.objects; tail = g.tail; setup = g.setup; past = past; calm = calm; exit = x.exit; own = x.own; main = x.main; codes = code_of g ∷ [] } in
+    let k : StarterKept at x.starter x.stage x.life x.came called answer event new.starter new.machine =
+    starter_keeps at x.starter x.stage x.life x.came f.ended f.small f.starter called answer event new.starter new.machine d in
     record {
       shape = record x { starter = k.starter; came = k.now };
       fits = record { first = f.first; small = f.small; ended = f.ended; main = f.main; starter = k.holds };
       stands = record { machine = k.machine; starter = k.part; main = rest };
       event = k.event;
       evidence = k.evidence;
+      turn = record { slot = 0; thread = 1; called = called; turn = refl; call_is = refl; plain = plain_turn (machine_of g x) 0 1 (starter_part x.starter) g.setup called answer event new.starter new.machine d };
       lives = λ _ alive. alive;
     }
 
-main_next : (a b : ℕ) → AreObjects a b → (tail : List ℕ) → IsZeros tail → (setup : Setup) (x : Shape) → Fits (first_code setup.programs) x → x.life ≡ Alive → (new : World)
+main_next : (g : Around) (past : List Seen) (x : Shape) → Fits (code_of g) x → x.life ≡ Alive → (new : World)
     → (called : Call) (answer : Reply) (event : Option Event) → new.starter ≡ starter_part x.starter
-    → DrivenStep Goes call_of (machine_at a b tail x) 1 0 (main_part x.main) setup called answer event new.main new.machine
-    → Next a b tail setup x (turn_entry 1 0 called answer event) new
-main_next a b o tail zeros setup x f alive new called answer event rest d =
+    → DrivenStep Goes call_of (machine_of g x) 1 0 (main_part x.main) g.setup called answer event new.main new.machine
+    → Next g past x (turn_entry 1 0 called answer event) new
+main_next g past x f alive new called answer event rest d =
     let before : Before = record {
-      a = a;
-      b = b;
-      objects = o;
-      tail = tail;
-      zeros = zeros;
-      setup = setup;
+      a = g.a;
+      b = g.b;
+      objects = g.objects;
+      tail = g.tail;
+      zeros = g.zeros;
+      long = g.long;
+      setup = g.setup;
+      short = g.short;
+      past = past;
       exit = x.exit;
       own = x.own;
       starter = x.starter;
@@ -164,9 +225,9 @@ main_next a b o tail zeros setup x f alive new called answer event rest d =
       first = f.first;
       starts = subst (λ l. StarterAt x.starter x.came l) alive f.starter;
     } in
-    let words : List ℕ = words_at tail x.stage x.exit in
-    let there : DrivenStep Goes call_of (state_at a b words (posted_at x.starter) Alive (posted_at x.main) x.own) 1 0 (main_part x.main) setup called answer event new.main new.machine =
-    subst (λ l. DrivenStep Goes call_of (state_at a b words (posted_at x.starter) l (posted_at x.main) x.own) 1 0 (main_part x.main) setup called answer event new.main new.machine) alive d in
+    let words : List ℕ = words_at g.tail x.stage x.exit in
+    let there : DrivenStep Goes call_of (state_at g.a g.b words (posted_at x.starter) Alive (posted_at x.main) x.own) 1 0 (main_part x.main) g.setup called answer event new.main new.machine =
+    subst (λ l. DrivenStep Goes call_of (state_at g.a g.b words (posted_at x.starter) l (posted_at x.main) x.own) 1 0 (main_part x.main) g.setup called answer event new.main new.machine) alive d in
     let k : Kept before x.main x.stage called answer event new.main new.machine =
     main_keeps before x.main x.stage f.small f.main called answer event new.main new.machine there in
     record {
@@ -174,74 +235,137 @@ main_next a b o tail zeros setup x f alive new called answer event rest d =
       fits = k.fits;
       stands = record { machine = k.machine; starter = rest ∙ ap starter_part (sym k.starter); main = k.part };
       event = k.event;
-      evidence = subst (λ l. HasEvidence (state_at a b words (posted_at x.starter) l (posted_at x.main) x.own) (turn_entry 1 0 called answer event)) (sym alive) k.evidence;
+      evidence = subst (λ l. HasEvidence past (state_at g.a g.b words (posted_at x.starter) l (posted_at x.main) x.own) (turn_entry 1 0 called answer event)) (sym alive) k.evidence;
+      turn = record { slot = 1; thread = 0; called = called; turn = refl; call_is = refl; plain = plain_turn (machine_of g x) 1 0 (main_part x.main) g.setup called answer event new.main new.machine d };
       lives = λ runs _. k.lives runs;
     }
 
 -- where a thread of slot 0 has a turn, it is the starter; else it is the main thread
-turned : (a b : ℕ) → AreObjects a b → (tail : List ℕ) → IsZeros tail → (setup : Setup) (x : Shape) → Fits (first_code setup.programs) x → (w new : World) → Stands a b tail x w
+turned : (g : Around) (past : List Seen) → was_ended past 2 ≡ false → (x : Shape) → Fits (code_of g) x → (w new : World) → Stands g x w
     → (slot t : ℕ) (called : Call) (answer : Reply) (event : Option Event) (c : Bool) → nat_eq slot 0 ≡ c
     → MatchBool c
-    (DrivenStep Goes call_of w.machine slot t w.starter setup called answer event new.starter new.machine × (new.main ≡ w.main))
-    (DrivenStep Goes call_of w.machine slot t w.main setup called answer event new.main new.machine × (new.starter ≡ w.starter))
-    → Next a b tail setup x (turn_entry slot t called answer event) new
-turned a b o tail zeros setup x f w new at slot t called answer event true e d = by_place (place a b (words_at tail x.stage x.exit) (posted_at x.starter) x.life (posted_at x.main) x.own slot t there.process there.thread there.posted.thread.process there.posted.thread.thread)
+    (DrivenStep Goes call_of w.machine slot t w.starter g.setup called answer event new.starter new.machine × (new.main ≡ w.main))
+    (DrivenStep Goes call_of w.machine slot t w.main g.setup called answer event new.main new.machine × (new.starter ≡ w.starter))
+    → Next g past x (turn_entry slot t called answer event) new
+turned g past calm x f w new at slot t called answer event true e d = by_place (place g.a g.b (words_at g.tail x.stage x.exit) (posted_at x.starter) x.life (posted_at x.main) x.own slot t there.process there.thread there.posted.thread.process there.posted.thread.thread)
   where
-    there : DrivenStep Goes call_of (machine_at a b tail x) slot t (starter_part x.starter) setup called answer event new.starter new.machine
-    there = subst (λ m. DrivenStep Goes call_of m slot t (starter_part x.starter) setup called answer event new.starter new.machine) at.machine
-        (subst (λ p. DrivenStep Goes call_of w.machine slot t p setup called answer event new.starter new.machine) at.starter d.0)
+    there : DrivenStep Goes call_of (machine_of g x) slot t (starter_part x.starter) g.setup called answer event new.starter new.machine
+    there = subst (λ m. DrivenStep Goes call_of m slot t (starter_part x.starter) g.setup called answer event new.starter new.machine) at.machine
+        (subst (λ p. DrivenStep Goes call_of w.machine slot t p g.setup called answer event new.starter new.machine) at.starter d.0)
 
-    by_place : Place x.life slot t → Next a b tail setup x (turn_entry slot t called answer event) new
+    by_place : Place x.life slot t → Next g past x (turn_entry slot t called answer event) new
     by_place (inl (p, q)) =
-        let here : DrivenStep Goes call_of (machine_at a b tail x) 0 1 (starter_part x.starter) setup called answer event new.starter new.machine =
-        subst (λ u. DrivenStep Goes call_of (machine_at a b tail x) 0 u (starter_part x.starter) setup called answer event new.starter new.machine) q
-        (subst (λ s. DrivenStep Goes call_of (machine_at a b tail x) s t (starter_part x.starter) setup called answer event new.starter new.machine) p there) in
-        rw (p, q) (starter_next a b o tail setup x f new called answer event (d.1 ∙ at.main) here)
+        let here : DrivenStep Goes call_of (machine_of g x) 0 1 (starter_part x.starter) g.setup called answer event new.starter new.machine =
+        subst (λ u. DrivenStep Goes call_of (machine_of g x) 0 u (starter_part x.starter) g.setup called answer event new.starter new.machine) q
+        (subst (λ s. DrivenStep Goes call_of (machine_of g x) s t (starter_part x.starter) g.setup called answer event new.starter new.machine) p there) in
+        rw (p, q) (starter_next g past calm x f new called answer event (d.1 ∙ at.main) here)
     by_place (inr (p, q, alive)) = let never : slot ≡ 0 = eqb-true slot 0 e in absurd (omega arith)
-turned a b o tail zeros setup x f w new at slot t called answer event false e d = by_place (place a b (words_at tail x.stage x.exit) (posted_at x.starter) x.life (posted_at x.main) x.own slot t there.process there.thread there.posted.thread.process there.posted.thread.thread)
+turned g past calm x f w new at slot t called answer event false e d = by_place (place g.a g.b (words_at g.tail x.stage x.exit) (posted_at x.starter) x.life (posted_at x.main) x.own slot t there.process there.thread there.posted.thread.process there.posted.thread.thread)
   where
-    there : DrivenStep Goes call_of (machine_at a b tail x) slot t (main_part x.main) setup called answer event new.main new.machine
-    there = subst (λ m. DrivenStep Goes call_of m slot t (main_part x.main) setup called answer event new.main new.machine) at.machine
-        (subst (λ p. DrivenStep Goes call_of w.machine slot t p setup called answer event new.main new.machine) at.main d.0)
+    there : DrivenStep Goes call_of (machine_of g x) slot t (main_part x.main) g.setup called answer event new.main new.machine
+    there = subst (λ m. DrivenStep Goes call_of m slot t (main_part x.main) g.setup called answer event new.main new.machine) at.machine
+        (subst (λ p. DrivenStep Goes call_of w.machine slot t p g.setup called answer event new.main new.machine) at.main d.0)
 
-    by_place : Place x.life slot t → Next a b tail setup x (turn_entry slot t called answer event) new
+    by_place : Place x.life slot t → Next g past x (turn_entry slot t called answer event) new
     by_place (inl (p, q)) = absurd (eqb-false slot 0 e p)
     by_place (inr (p, q, alive)) =
-        let here : DrivenStep Goes call_of (machine_at a b tail x) 1 0 (main_part x.main) setup called answer event new.main new.machine =
-        subst (λ u. DrivenStep Goes call_of (machine_at a b tail x) 1 u (main_part x.main) setup called answer event new.main new.machine) q
-        (subst (λ s. DrivenStep Goes call_of (machine_at a b tail x) s t (main_part x.main) setup called answer event new.main new.machine) p there) in
-        rw (p, q) (main_next a b o tail zeros setup x f alive new called answer event (d.1 ∙ at.starter) here)
+        let here : DrivenStep Goes call_of (machine_of g x) 1 0 (main_part x.main) g.setup called answer event new.main new.machine =
+        subst (λ u. DrivenStep Goes call_of (machine_of g x) 1 u (main_part x.main) g.setup called answer event new.main new.machine) q
+        (subst (λ s. DrivenStep Goes call_of (machine_of g x) s t (main_part x.main) g.setup called answer event new.main new.machine) p there) in
+        rw (p, q) (main_next g past x f alive new called answer event (d.1 ∙ at.starter) here)
 
-next_of_turn : (a b : ℕ) → AreObjects a b → (tail : List ℕ) → IsZeros tail → (setup : Setup) (x : Shape) → Fits (first_code setup.programs) x → (w new : World) → Stands a b tail x w
-    → (slot t : ℕ) (e : Entry) → Turns setup w slot t e new → Next a b tail setup x e new
-next_of_turn a b o tail zeros setup x f w new at slot t e turn =
-    subst (λ y. Next a b tail setup x y new) (sym turn.entry)
-    (turned a b o tail zeros setup x f w new at slot t turn.called turn.answer turn.event (nat_eq slot 0) refl turn.drives)
+next_of_turn : (g : Around) (past : List Seen) → was_ended past 2 ≡ false → (x : Shape) → Fits (code_of g) x → (w new : World) → Stands g x w
+    → (slot t : ℕ) (e : Entry) → Turns g.setup w slot t e new → Next g past x e new
+next_of_turn g past calm x f w new at slot t e turn =
+    subst (λ y. Next g past x y new) (sym turn.entry)
+    (turned g past calm x f w new at slot t turn.called turn.answer turn.event (nat_eq slot 0) refl turn.drives)
+
+-- a turn ends nobody from outside
+calm_turn : (s : Win32State) (d : Directive) (slot t : ℕ) → d ≡ Turn slot t → ends_process s d 2 ≡ false
+calm_turn s d slot t e = ap (λ x. ends_process s x 2) e
 
 -- the whole run
-run_is : (a b : ℕ) → AreObjects a b → (tail : List ℕ) → IsZeros tail → (setup : Setup) (x : Shape) → Fits (first_code setup.programs) x → (w : World) → Stands a b tail x w
-    → (last : ℕ × ℕ) (es : List Entry) (new : World) (next : ℕ × ℕ) → DrivenRun setup w last es new next
-    → (p : PosixState) × HeadlineRun (first_code setup.programs ∷ []) 1 w.machine (round_at last) (posix_at x) es new.machine (round_at next) p
-run_is a b o tail zeros setup x f w at last [] new next run = (posix_at x, (ap (λ (v : World). v.machine) run.0, ap round_at run.1, refl))
-run_is a b o tail zeros setup x f w at last (e ∷ es) new next run =
-    let n : Next a b tail setup x e run.0 = next_of_turn a b o tail zeros setup x f w run.0 at run.1.0 run.1.1 e run.2.turn in
-    let rest : (p : PosixState) × HeadlineRun (first_code setup.programs ∷ []) 1 run.0.machine (round_at run.1) (posix_at n.shape) es new.machine (round_at next) p =
-    run_is a b o tail zeros setup n.shape n.fits run.0 n.stands run.1 es new next run.3 in
-    let one : HeadlineStep (first_code setup.programs ∷ []) 1 w.machine (posix_at x) e run.0.machine (posix_at n.shape) = record {
-      step = round_step setup w last e run.0 run.1 run.2;
+record Ran (g : Around) (past : List Seen) (w : World) (last : ℕ × ℕ) (x : Shape) (es : List Entry) (new : World) (next : ℕ × ℕ) : Type 0 where
+  shape : Shape
+  fits : Fits (code_of g) shape
+  stands : Stands g shape new
+  run : HeadlineRun (code_of g ∷ []) 1 past w.machine (round_at last) (posix_at x) es new.machine (round_at next) (posix_at shape)
+
+run_is : (g : Around) (past : List Seen) → was_ended past 2 ≡ false → (x : Shape) → Fits (code_of g) x → (w : World) → Stands g x w
+    → (last : ℕ × ℕ) (es : List Entry) (new : World) (next : ℕ × ℕ) → DrivenRun g.setup w last es new next → Ran g past w last x es new next
+run_is g past calm x f w at last [] new next run = record {
+  shape = x;
+  fits = f;
+  stands = subst (λ (v : World). Stands g x v) (sym run.0) at;
+  run = (ap (λ (v : World). v.machine) run.0, ap round_at run.1, refl);
+}
+run_is g past calm x f w at last (e ∷ es) new next run =
+    let n : Next g past x e run.0 = next_of_turn g past calm x f w run.0 at run.1.0 run.1.1 e run.2.turn in
+    let seen : Seen = record { before = w.machine; entry = e } in
+    let still : was_ended (seen ∷ past) 2 ≡ false = rw (calm_turn w.machine e.directive n.turn.slot n.turn.thread n.turn.turn) calm in
+    let rest : Ran g (seen ∷ past) run.0 run.1 n.shape es new next = run_is g (seen ∷ past) still n.shape n.fits run.0 n.stands run.1 es new next run.3 in
+    let one : HeadlineStep (code_of g ∷ []) 1 past w.machine (posix_at x) e run.0.machine (posix_at n.shape) = record {
+      step = round_step g.setup w last e run.0 run.1 run.2;
       event = n.event;
-      discipline = subst (λ s. KeepsDiscipline 1 s e run.0.machine) (sym at.machine)
-          (subst (λ s. KeepsDiscipline 1 (machine_at a b tail x) e s) (sym n.stands.machine) (discipline a b tail x n.shape e zeros f.small n.lives));
-      evidence = subst (λ s. HasEvidence s e) (sym at.machine) n.evidence;
-      decodes = subst (λ s. Decodes 1 s (posix_at n.shape)) (sym n.stands.machine) (decodes_at (first_code setup.programs) a b tail n.shape n.fits);
+      discipline = subst (λ s. KeepsDiscipline (code_of g ∷ []) 1 past s (posix_at x) e run.0.machine) (sym at.machine)
+          (subst (λ s. KeepsDiscipline (code_of g ∷ []) 1 past (machine_of g x) (posix_at x) e s) (sym n.stands.machine) (discipline g past (posix_at x) x n.shape e n.turn f.small n.lives));
+      evidence = subst (λ s. HasEvidence past s e) (sym at.machine) n.evidence;
+      decodes = subst (λ s. Decodes 1 s (posix_at n.shape)) (sym n.stands.machine) (decodes_at (code_of g) g.a g.b g.tail n.shape n.fits);
     } in
-    (rest.0, (run.0.machine, round_at run.1, posix_at n.shape, round_given setup w last e run.0 run.1 run.2, one, rest.1))
+    record {
+      shape = rest.shape;
+      fits = rest.fits;
+      stands = rest.stands;
+      run = (run.0.machine, round_at run.1, posix_at n.shape, round_given g.setup w last e run.0 run.1 run.2, one, rest.run);
+    }
+
+-- a state in which no thread is ready
+
+alive_is_ready : (g : Around) (x : Shape) → Fits (code_of g) x → x.life ≡ Alive → is_ready (machine_of g x) 1 0 ≡ true
+alive_is_ready g x f alive = rw alive (by_step x.main f.main)
+  where
+    by_step : (s : Step) → MainAt (code_of g) s x.stage x.exit x.own
+        → is_ready (state_at g.a g.b (words_at g.tail x.stage x.exit) (posted_at x.starter) Alive (posted_at s) x.own) 1 0 ≡ true
+    by_step step.Rest m = absurd m
+    by_step step.Waiting m = absurd m
+    by_step step.Asking m = absurd m
+    by_step _ m = refl
+
+ended_is_ready : (g : Around) (x : Shape) (code : ℕ) → StarterAt x.starter x.came (Ended code) → x.came ≡ false
+    → is_ready (state_at g.a g.b (words_at g.tail x.stage x.exit) (posted_at x.starter) (Ended code) (posted_at x.main) x.own) 0 1 ≡ true
+ended_is_ready g x code at not_yet = by_step x.starter at
+  where
+    by_step : (s : Step) → StarterAt s x.came (Ended code)
+        → is_ready (state_at g.a g.b (words_at g.tail x.stage x.exit) (posted_at s) (Ended code) (posted_at x.main) x.own) 0 1 ≡ true
+    by_step step.Start h = refl
+    by_step step.Waiting h = rw (g.objects.process_whole, g.objects.section_first, g.objects.process_is) refl
+    by_step step.Asking h = refl
+    by_step step.Rest h = let never : true ≡ false = sym h ∙ not_yet in cc
+    by_step _ h = absurd h
+
+settled_at : (g : Around) (x : Shape) → Fits (code_of g) x → IsQuiet (machine_of g x) → IsSettled (posix_at x)
+settled_at g x f quiet = by_life x.life refl
+  where
+    by_came : (code : ℕ) (came : Bool) → x.life ≡ Ended code → x.came ≡ came → x.came ≡ true
+    by_came code true is e = e
+    by_came code false is e =
+        let ready : is_ready (machine_of g x) 0 1 ≡ true = rw is (ended_is_ready g x code (subst (λ l. StarterAt x.starter x.came l) is f.starter) e) in
+        let never : true ≡ false = sym ready ∙ quiet 0 1 in
+        cc
+
+    by_life : (life : Life) → x.life ≡ life → IsSettled (posix_at x)
+    by_life Alive is = let never : true ≡ false = sym (alive_is_ready g x f is) ∙ quiet 1 0 in cc
+    by_life (Ended code) is = record {
+      gone = ap (λ (stage : Stage). records_at stage (image_of x.own)) (f.ended code is);
+      read = by_came code x.came is refl;
+    }
 
 -- the opening
 
 record OpeningTail : Type 0 where
   tail : List ℕ
   zeros : IsZeros tail
+  long : length tail ≡ 11997
   words : opening_words ≡ words_at tail Runs 0
 
 abbrev zeros_of : ℕ → List ℕ
@@ -252,27 +376,44 @@ zeros_are zero i = refl
 zeros_are (suc n) zero = refl
 zeros_are (suc n) (suc i) = zeros_are n i
 
+zeros_long : (n : ℕ) → length (zeros_of n) ≡ n
+zeros_long zero = refl
+zeros_long (suc n) = ap suc (zeros_long n)
+
 opening_tail : OpeningTail
 unfolding opening_words
-opening_tail = record { tail = zeros_of 11997; zeros = zeros_are 11997; words = refl }
+opening_tail = record { tail = zeros_of 11997; zeros = zeros_are 11997; long = zeros_long 11997; words = refl }
 
 abbrev opening_shape : Program → Shape
 opening_shape program = record { stage = Runs; exit = 0; life = Alive; own = opening_memory program; main = step.Start; starter = step.Start; came = false }
 
-opening_is_first : (program : Program) → IsFirst (opening_memory program)
+opening_is_first : (code : List Instr) (program : Program) → is_first_form_code code ≡ true → IsFirst code (opening_memory program)
 unfolding opening_memory word_at
-opening_is_first program = record { sized = refl; program = refl; cyg = refl }
+opening_is_first code program form = record { sized = refl; program = refl; empty = refl; cyg = refl; ahead = form }
 
-opening_fits : (code : List Instr) (program : Program) → Fits code (opening_shape program)
-opening_fits code program = record { first = opening_is_first program; small = tt; ended = λ status e. cc; main = refl; starter = refl }
+opening_fits : (code : List Instr) (program : Program) → is_first_form_code code ≡ true → Fits code (opening_shape program)
+opening_fits code program form = record { first = opening_is_first code program form; small = tt; ended = λ status e. cc; main = refl; starter = refl }
 
 posix_opens : (program : Program) → posix_at (opening_shape program) ≡ opening_of program
 unfolding opening_memory new_image opening_record
 posix_opens program = refl
 
-opening_stands : (setup : Setup) (w : World) (o : IsWorldOpening setup w)
-    → Stands (2 * o.machine.section) (2 * o.machine.process) opening_tail.tail (opening_shape o.program) w
-opening_stands setup w o = record {
+-- what stays in a run of a script
+abbrev around_of : (setup : Setup) (w : World) → IsWorldOpening setup w → length (first_code setup.programs) ≤ 4000 → Around
+around_of setup w o short = record {
+  a = 2 * o.machine.section;
+  b = 2 * o.machine.process;
+  objects = even_objects o.machine.section o.machine.process o.machine.differ;
+  tail = opening_tail.tail;
+  zeros = opening_tail.zeros;
+  long = opening_tail.long;
+  setup = setup;
+  short = short;
+}
+
+opening_stands : (setup : Setup) (w : World) (o : IsWorldOpening setup w) (short : length (first_code setup.programs) ≤ 4000)
+    → Stands (around_of setup w o short) (opening_shape o.program) w
+opening_stands setup w o short = record {
   machine = o.machine.state
       ∙ ap (λ ws. state_at (2 * o.machine.section) (2 * o.machine.process) ws (posted_at step.Start) Alive (posted_at step.Start) (opening_memory o.program)) opening_tail.words;
   starter = o.starter;
@@ -282,21 +423,32 @@ opening_stands setup w o = record {
 one_code : (programs : List Program) (program : Program) → programs ≡ program ∷ [] → first_code programs ∷ [] ≡ map (λ (p : Program). p.code) programs
 one_code programs program e = subst (λ ps. first_code ps ∷ [] ≡ map (λ (p : Program). p.code) ps) (sym e) refl
 
+code_is : (setup : Setup) (budget : ℕ) (code : List Instr) → IsOneProgram setup budget code → first_code setup.programs ≡ code
+code_is setup budget code one = ap first_code one.program.1 ∙ one.program.2.instructions
+
+-- the last state of a run that has come to rest
+settles : (g : Around) (past : List Seen) (w : World) (last : ℕ × ℕ) (x : Shape) (entries : List Entry) (new : World) (next : ℕ × ℕ) (budget : ℕ) (end : End)
+    → (k : Ran g past w last x entries new next) → EndsBy budget (length entries) new.machine (Settle ∷ []) end → end ≡ Quiet → IsSettled (posix_at k.shape)
+settles g past w last x entries new next budget end k ends is =
+    let quiet : IsQuiet new.machine = (subst (λ z. EndsBy budget (length entries) new.machine (Settle ∷ []) z) is ends).1 in
+    settled_at g k.shape k.fits (subst IsQuiet k.stands.machine quiet)
+
 -- the headline of a run of one program on one row
 pub headline_of : (setup : Setup) (entries : List Entry) (end : End) (budget : ℕ) (code : List Instr)
-    → RunsToTheEnd setup entries end → IsOneProgram setup budget code → Headline setup entries end
-headline_of setup entries end budget code r one =
+    → RunsToTheEnd setup entries end → IsOneProgram setup budget code → is_first_form_code code ≡ true → length code ≤ 4000
+    → (h : Headline setup entries end) × (end ≡ Quiet → IsSettled h.posix_last)
+headline_of setup entries end budget code r one form few =
     let o : IsWorldOpening setup r.opening = r.opens in
-    let a : ℕ = 2 * o.machine.section in
-    let b : ℕ = 2 * o.machine.process in
+    let is : first_code setup.programs ≡ code = code_is setup budget code one in
+    let short : length (first_code setup.programs) ≤ 4000 = subst (λ c. length c ≤ 4000) (sym is) few in
+    let g : Around = around_of setup r.opening o short in
     let x : Shape = opening_shape o.program in
-    let fits : Fits (first_code setup.programs) x = opening_fits (first_code setup.programs) o.program in
-    let stands : Stands a b opening_tail.tail x r.opening = opening_stands setup r.opening o in
-    let k : (p : PosixState) × HeadlineRun (first_code setup.programs ∷ []) 1 r.opening.machine (round_at (64, 2)) (posix_at x) entries r.last.machine (round_at r.at) p =
-    run_is a b (even_objects o.machine.section o.machine.process o.machine.differ) opening_tail.tail opening_tail.zeros setup x fits r.opening stands (64, 2) entries r.last r.at r.run in
+    let fits : Fits (first_code setup.programs) x = opening_fits (first_code setup.programs) o.program (subst (λ c. is_first_form_code c ≡ true) (sym is) form) in
+    let stands : Stands g x r.opening = opening_stands setup r.opening o short in
+    let k : Ran g [] r.opening (64, 2) x entries r.last r.at = run_is g [] refl x fits r.opening stands (64, 2) entries r.last r.at r.run in
     let shown : Decodes 1 r.opening.machine (posix_at x) =
-    subst (λ s. Decodes 1 s (posix_at x)) (sym stands.machine) (decodes_at (first_code setup.programs) a b opening_tail.tail x fits) in
-    record {
+    subst (λ s. Decodes 1 s (posix_at x)) (sym stands.machine) (decodes_at (first_code setup.programs) g.a g.b g.tail x fits) in
+    (record {
       program = o.program;
       first = o.first;
       opening = r.opening.machine;
@@ -304,9 +456,9 @@ headline_of setup entries end budget code r one =
       shown = subst (λ n. Decodes n r.opening.machine (opening_of o.program)) (sym one.rows) (subst (λ p. Decodes 1 r.opening.machine p) (posix_opens o.program) shown);
       last = r.last.machine;
       at = round_at r.at;
-      posix_last = k.0;
+      posix_last = posix_at k.shape;
       within = r.ends;
-      run = subst (λ n. HeadlineRun (codes_of setup) n r.opening.machine (round_at (64, 2)) (opening_of o.program) entries r.last.machine (round_at r.at) k.0) (sym one.rows)
-          (subst (λ p. HeadlineRun (codes_of setup) 1 r.opening.machine (round_at (64, 2)) p entries r.last.machine (round_at r.at) k.0) (posix_opens o.program)
-          (subst (λ codes. HeadlineRun codes 1 r.opening.machine (round_at (64, 2)) (posix_at x) entries r.last.machine (round_at r.at) k.0) (one_code setup.programs one.program.0 one.program.1) k.1));
-    }
+      run = subst (λ n. HeadlineRun (codes_of setup) n [] r.opening.machine (round_at (64, 2)) (opening_of o.program) entries r.last.machine (round_at r.at) (posix_at k.shape)) (sym one.rows)
+          (subst (λ p. HeadlineRun (codes_of setup) 1 [] r.opening.machine (round_at (64, 2)) p entries r.last.machine (round_at r.at) (posix_at k.shape)) (posix_opens o.program)
+          (subst (λ codes. HeadlineRun codes 1 [] r.opening.machine (round_at (64, 2)) (posix_at x) entries r.last.machine (round_at r.at) (posix_at k.shape)) (one_code setup.programs one.program.0 one.program.1) k.run));
+    }, settles g [] r.opening (64, 2) x entries r.last r.at setup.limits.budget end k r.ends)

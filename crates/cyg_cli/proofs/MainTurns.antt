@@ -1,6 +1,6 @@
 -- What each turn of the main thread keeps and shows.
 use Rattle.std.proofs.Common.{◌≡◌, ◌≢◌, ℕ, zero, suc, ◌+◌, ◌-◌, ◌≤◌, ◌<◌, Bool, true, false, cond, ◌&&◌, ◌||◌, nat_eq, List, [], ◌∷◌, length, get_or, set, Option, Some, None, refl, sym, ◌∙◌, ap, subst, arith}
-use Rattle.std.specs.Prelude.{ℤ, pos, negsuc, not, nat_le, nat_lt, MatchOption}
+use Rattle.std.specs.Prelude.{ℤ, pos, negsuc, nat_le, nat_lt, slice_get, MatchOption}
 use Rattle.std.specs.Int.{w32, cast_unsigned}
 use Rattle.std.proofs.lemmas.Bool.{eq-eqb, eqb-true, eqb-false, lt-ltb, leb-true}
 use Rattle.w32_base.specs.declared.call.Call.{Call}
@@ -17,28 +17,31 @@ use Rattle.w32_base.specs.declared.event.Event.TheVariants as event
 use Rattle.w32_base.specs.declared.entry.Directive.TheVariants.{Turn}
 use Rattle.w32_base.specs.declared.instr.Instr.{Instr}
 use Rattle.w32_base.specs.declared.instr.Instr.TheVariants as instr
+use Rattle.w32_base.specs.declared.instr.Operand.TheVariants.{Register, Number}
 use Rattle.w32_base.specs.declared.own.Own.{Own}
 use Rattle.w32_base.specs.declared.setup.Setup.{Setup}
 use Rattle.win32_spec.specs.Objects.{load_reply, exchanged}
 use Rattle.win32_spec.specs.State.{Alive, Ended, Win32State}
 use Rattle.win32_spec.specs.Opening.{first_main_word}
 use Rattle.vm_spec.specs.Image.{Image, image_of, with_image, with_result, moved_on, place_of, value_of}
-use Rattle.vm_spec.specs.Step.{Upcoming, LocalInstruction, CallInstruction, ImageFault, upcoming, low_byte}
-use Rattle.posix_spec.specs.Step.{is_kill, is_invalid_kill, exit_status}
+use Rattle.vm_spec.specs.Step.{CallInstruction, upcoming, low_byte}
+use Rattle.posix_spec.specs.Step.{is_kill, exit_status}
 use Rattle.posix_spec.specs.Run.{PosixStep}
 use Rattle.layer_spec.specs.Rows.{main_index, is_record_word, sealed_word, gone_word, exit_word}
-use Rattle.layer_spec.specs.Evidence.{Shows, HasEvidence, IsOwnTurn, TellsExit}
+use Rattle.layer_spec.specs.FirstForm.{is_first_form_instr, is_exit}
+use Rattle.layer_spec.specs.Evidence.{Seen, Shows, HasEvidence, IsOwnTurn, TellsExit}
 use Rattle.w32_machine.specs.Contract.{DrivenStep}
 use Rattle.cyg_cli.specs.declared.layer.part.ThreadPart.{ThreadPart}
 use Rattle.cyg_cli.specs.declared.layer.step.Step.{Step}
 use Rattle.cyg_cli.specs.declared.layer.step.Step.TheVariants as step
 use Rattle.cyg_cli.specs.Entries.{turn_entry}
-use Rattle.cyg_cli.specs.Layer.{Did, goes_to, posted_at, first_code, can_take, answers, finds_target, checks_target, begins_kill, goes_on, checked, main_after}
+use Rattle.cyg_cli.specs.Layer.{Did, goes_to, posted_at, first_code, can_take, answers, finds_target, begins_kill, goes_on, checked, main_after}
 use Rattle.cyg_cli.specs.ThreadPart.{call_of, Goes}
-use Rattle.cyg_cli.proofs.Bytes.{length-with_word, word_at-with_word}
-use Rattle.cyg_cli.proofs.Seats.{AreObjects, state_at, layer_at, main_part, MainWent, main_loads, main_exchanges, main_leaves, main_rests}
+use Rattle.cyg_cli.proofs.Bytes.{length-with_word, word_at-with_word, word_at-with_word_same}
+use Rattle.cyg_cli.proofs.Codes.{IsAhead, InstrAt, and_left, and_right, ahead_below, instr_ahead, ahead_on, call_ahead}
+use Rattle.cyg_cli.proofs.Seats.{AreObjects, state_at, layer_at, main_part, MainWent, main_loads, main_exchanges, main_leaves}
 use Rattle.cyg_cli.proofs.Shapes.{Stage, Runs, Died, Left, Shape, words_at, machine_at, posix_at, IsFirst, ExitsNext, MainAt, StarterAt, IsSmall, Fits}
-use Rattle.cyg_cli.proofs.PosixSteps.{posix_of, same_number, get_pid_step, refused_step, nobody_step, itself_step, death_step, collect_step}
+use Rattle.cyg_cli.proofs.PosixSteps.{posix_of, same_number, get_pid_step, nobody_step, itself_step, death_step, collect_step}
 
 -- the words above the first row are 0
 abbrev pub IsZeros : List ℕ → Type 0
@@ -51,12 +54,15 @@ pub record Before : Type 0 where
   pub objects : AreObjects a b
   pub tail : List ℕ
   pub zeros : IsZeros tail
+  pub long : length tail ≡ 11997
   pub setup : Setup
+  pub short : length (first_code setup.programs) ≤ 4000
+  pub past : List Seen
   pub exit : ℕ
   pub own : Own
   pub starter : Step
   pub came : Bool
-  pub first : IsFirst own
+  pub first : IsFirst (first_code setup.programs) own
   pub starts : StarterAt starter came Alive
 
 abbrev pub code_in : Before → List Instr
@@ -74,7 +80,7 @@ pub record Kept (x : Before) (s : Step) (stage : Stage) (called : Call) (answer 
   pub starter : shape.starter ≡ x.starter
   pub event : MatchOption told (posix_at shape ≡ posix_of stage (image_of x.own) x.came)
       (λ e. PosixStep (code_in x ∷ []) (posix_of stage (image_of x.own) x.came) e (posix_at shape))
-  pub evidence : HasEvidence (state_before x s stage) (turn_entry 1 0 called answer told)
+  pub evidence : HasEvidence x.past (state_before x s stage) (turn_entry 1 0 called answer told)
   pub lives : stage ≡ Runs → shape.life ≡ Alive
 
 abbrev pub MainKeeps : Before → Step → Stage → Type 0
@@ -83,12 +89,12 @@ MainKeeps x s stage = (called : Call) (answer : Reply) (event : Option Event) (n
 
 -- what the part did is good: it leads to another stage and exit word
 record IsGood (x : Before) (s : Step) (stage after : Stage) (exit : ℕ) (d : Did) : Type 0 where
-  first : IsFirst d.own
+  first : IsFirst (code_in x) d.own
   small : IsSmall after
   main : MainAt (code_in x) d.step after exit d.own
   event : MatchOption d.event (posix_of after (image_of d.own) x.came ≡ posix_of stage (image_of x.own) x.came)
       (λ e. PosixStep (code_in x ∷ []) (posix_of stage (image_of x.own) x.came) e (posix_of after (image_of d.own) x.came))
-  evidence : (called : Call) (answer : Reply) → HasEvidence (state_before x s stage) (turn_entry 1 0 called answer d.event)
+  evidence : (called : Call) (answer : Reply) → HasEvidence x.past (state_before x s stage) (turn_entry 1 0 called answer d.event)
 
 finish : (x : Before) (s : Step) (stage after : Stage) (exit : ℕ) (words : List ℕ) (d : Did) (called : Call) (answer : Reply) (event : Option Event) (next : ThreadPart) (new : Win32State)
     → IsGood x s stage after exit d → words ≡ words_at x.tail after exit → MainWent x.a x.b words (posted_at x.starter) d next event new
@@ -116,96 +122,129 @@ by_test x s stage after exit false p q f g = g refl
 moves : (x : Before) (s next : Step) (stage : Stage) (exit : ℕ) → IsSmall stage → MainAt (code_in x) next stage exit x.own → IsGood x s stage stage exit (goes_to next x.own)
 moves x s next stage exit small m = record { first = x.first; small = small; main = m; event = refl; evidence = λ called answer. tt }
 
-rests : (x : Before) (s : Step) → IsGood x s Runs Runs x.exit (goes_to step.Rest x.own)
-rests x s = moves x s step.Rest Runs x.exit tt refl
-
 -- a turn of process 2's own
 own_turn : (x : Before) (s : Step) → IsOwnTurn (state_before x s Runs) (Turn 1 0) 2
 own_turn x s = record { slot = 1; process = layer_at x.a Alive (posted_at s) x.own; turn = refl; stands = refl; named = refl }
 
+-- what is next is an instruction of the first form
+record Called (x : Before) : Type 0 where
+  it : Instr
+  found : slice_get (code_in x) (place_of (image_of x.own)) ≡ Some it
+  form : is_first_form_instr it ≡ true
+  next : upcoming (code_in x) (image_of x.own) ≡ CallInstruction it
+
+called_next : (x : Before) → Called x
+called_next x =
+    let k : InstrAt (code_in x) (place_of (image_of x.own)) = instr_ahead (code_in x) (place_of (image_of x.own)) x.first.ahead in
+    record { it = k.it; found = k.found; form = k.form; next = call_ahead (code_in x) (image_of x.own) k.it x.first.empty k.found k.form }
+
+-- what is next is no exit
+abbrev GoesPast : Before → Type 0
+GoesPast x = (i : Instr) → upcoming (code_in x) (image_of x.own) ≡ CallInstruction i → is_exit i ≡ false
+
+below_4000 : (x : Before) → place_of (image_of x.own) < 4000
+below_4000 x = omega (arith, ahead_below (code_in x) (place_of (image_of x.own)) x.first.ahead, x.short)
+
 -- the memory after a result
-first_answered : (own : Own) (z : ℤ) → IsFirst own → IsFirst (with_image own (with_result (image_of own) z None))
-first_answered own z f =
+first_answered : (x : Before) (z : ℤ) → GoesPast x → IsFirst (code_in x) (with_image x.own (with_result (image_of x.own) z None))
+first_answered x z past =
+    let own : Own = x.own in
+    let f : IsFirst (code_in x) own = x.first in
+    let place : ℕ = place_of (image_of own) in
+    let low : place < 4000 = below_4000 x in
     let size : length own.dat ≡ 64 = f.sized in
-    let moved : length (moved_on (image_of own)).dat ≡ length own.dat = length-with_word own.dat 32 (place_of (image_of own) + 1) (omega arith) in
+    let moved : length (moved_on (image_of own)).dat ≡ length own.dat = length-with_word own.dat 32 (place + 1) (omega arith) in
+    let coming : Called x = called_next x in
+    let after : IsAhead (code_in x) (suc place) = ahead_on (code_in x) place coming.it coming.found (past coming.it coming.next) f.ahead in
+    let now : place_of (image_of (with_image own (with_result (image_of own) z None))) ≡ place + 1 =
+    word_at-with_word (moved_on (image_of own)).dat 0 (cast_unsigned w32 z) 32 (omega arith) (omega arith)
+    ∙ word_at-with_word_same own.dat 32 (place + 1) (omega arith) (omega arith) in
+    let follows : suc place ≡ place_of (image_of (with_image own (with_result (image_of own) z None))) = omega (arith, now) in
     record {
       sized = length-with_word (moved_on (image_of own)).dat 0 (cast_unsigned w32 z) (omega arith) ∙ moved ∙ size;
       program = word_at-with_word (moved_on (image_of own)).dat 0 (cast_unsigned w32 z) 40 (omega arith) (omega arith)
-          ∙ word_at-with_word own.dat 32 (place_of (image_of own) + 1) 40 (omega arith) (omega arith) ∙ f.program;
+          ∙ word_at-with_word own.dat 32 (place + 1) 40 (omega arith) (omega arith) ∙ f.program;
+      empty = word_at-with_word (moved_on (image_of own)).dat 0 (cast_unsigned w32 z) 36 (omega arith) (omega arith)
+          ∙ word_at-with_word own.dat 32 (place + 1) 36 (omega arith) (omega arith) ∙ f.empty;
       cyg = f.cyg;
+      ahead = subst (λ n. IsAhead (code_in x) n) follows after;
     }
 
-answered : (x : Before) (s : Step) (z : ℤ) (e : Event)
-    → PosixStep (code_in x ∷ []) (posix_of Runs (image_of x.own) x.came) e (posix_of Runs (with_result (image_of x.own) z None) x.came)
-    → ((called : Call) (answer : Reply) → Shows (state_before x s Runs) (turn_entry 1 0 called answer (Some e)) e)
-    → IsGood x s Runs Runs x.exit (answers x.own z e)
-answered x s z e goes shows = by_test x s Runs Runs x.exit (can_take x.own) _ (goes_to step.Rest x.own)
-    (λ _. record { first = first_answered x.own z x.first; small = tt; main = refl; event = goes; evidence = shows })
-    (λ _. rests x s)
+takes : (x : Before) → can_take x.own ≡ true
+takes x = rw (x.first.sized, lt-ltb (place_of (image_of x.own)) 4294967295 (omega (arith, below_4000 x))) refl
 
-kill_answered : (x : Before) (s : Step) (z q n : ℤ) (a : Answer)
-    → PosixStep (code_in x ∷ []) (posix_of Runs (image_of x.own) x.came) (event.Kill 2 q n a) (posix_of Runs (with_result (image_of x.own) z None) x.came)
-    → IsGood x s Runs Runs x.exit (answers x.own z (event.Kill 2 q n a))
-kill_answered x s z q n a goes = answered x s z (event.Kill 2 q n a) goes (λ called answer. record { place = own_turn x s; death = tt; host = tt })
+answered : (x : Before) (s : Step) (z : ℤ) (e : Event) → GoesPast x
+    → PosixStep (code_in x ∷ []) (posix_of Runs (image_of x.own) x.came) e (posix_of Runs (with_result (image_of x.own) z None) x.came)
+    → ((called : Call) (answer : Reply) → Shows x.past (state_before x s Runs) (turn_entry 1 0 called answer (Some e)) e)
+    → IsGood x s Runs Runs x.exit (answers x.own z e)
+answered x s z e past goes shows = by_test x s Runs Runs x.exit (can_take x.own) _ (goes_to step.Rest x.own)
+    (λ _. record { first = first_answered x z past; small = tt; main = refl; event = goes; evidence = shows })
+    (λ no. let never : true ≡ false = sym (takes x) ∙ no in cc)
 
 abbrev KillsNext : Before → ℤ → ℤ → Type 0
 KillsNext x q n = is_kill (upcoming (code_in x) (image_of x.own)) (image_of x.own) q n ≡ true
 
-and_left : (a b : Bool) → (a && b) ≡ true → a ≡ true
-and_left true b e = refl
-and_left false b e = cc
+kill_is_no_exit : (i : Instr) (image : Image) (q n : ℤ) → is_kill (CallInstruction i) image q n ≡ true → is_exit i ≡ false
+kill_is_no_exit (instr.Kill target signal) image q n e = refl
+kill_is_no_exit _ image q n e = let never : false ≡ true = e in cc
 
-or_left : (a b : Bool) → (a || b) ≡ false → a ≡ false
-or_left true b e = cc
-or_left false b e = refl
+kill_goes_past : (x : Before) (q n : ℤ) → KillsNext x q n → GoesPast x
+kill_goes_past x q n kills i e = kill_is_no_exit i (image_of x.own) q n (ap (λ u. is_kill u (image_of x.own) q n) (sym e) ∙ kills)
 
-or_right : (a b : Bool) → (a || b) ≡ false → b ≡ false
-or_right true b e = cc
-or_right false b e = e
+kill_answered : (x : Before) (s : Step) (z q n : ℤ) (a : Answer) → KillsNext x q n
+    → PosixStep (code_in x ∷ []) (posix_of Runs (image_of x.own) x.came) (event.Kill 2 q n a) (posix_of Runs (with_result (image_of x.own) z None) x.came)
+    → IsGood x s Runs Runs x.exit (answers x.own z (event.Kill 2 q n a))
+kill_answered x s z q n a kills goes =
+    answered x s z (event.Kill 2 q n a) (kill_goes_past x q n kills) goes (λ called answer. record { place = own_turn x s; death = tt; host = tt })
 
 target_good : (x : Before) (n : ℕ) → KillsNext x (pos n) (pos 0) → n ≢ 0 → IsGood x step.Look Runs Runs x.exit (finds_target x.own n)
 target_good x n kills some = by_test x step.Look Runs Runs x.exit (nat_le 2 n && nat_le n 4001) (goes_to (step.Target n) x.own) (answers x.own (negsuc 2) (event.Kill 2 (pos n) (pos 0) (Error errno.ESRCH)))
-    (λ e. moves x step.Look (step.Target n) Runs x.exit tt (refl, kills, leb-true 2 n (and_left (nat_le 2 n) (nat_le n 4001) e)))
-    (λ e. kill_answered x step.Look (negsuc 2) (pos n) (pos 0) (Error errno.ESRCH)
+    (λ e. moves x step.Look (step.Target n) Runs x.exit tt
+    (refl, kills, leb-true 2 n (and_left (nat_le 2 n) (nat_le n 4001) e), leb-true n 4001 (and_right (nat_le 2 n) (nat_le n 4001) e)))
+    (λ e. kill_answered x step.Look (negsuc 2) (pos n) (pos 0) (Error errno.ESRCH) kills
     (nobody_step (code_in x) (image_of x.own) x.came n x.first.program kills some (λ two. let never : true ≡ false = rw (sym two) at e in cc)))
 
-check_good : (x : Before) (q n : ℤ) → KillsNext x q n → IsGood x step.Look Runs Runs x.exit (checks_target x.own q n)
-check_good x (negsuc k) n kills = rests x step.Look
-check_good x (pos k) (negsuc m) kills = by_test x step.Look Runs Runs x.exit (nat_eq k 0 || true) (goes_to step.Rest x.own) (finds_target x.own k)
-    (λ _. rests x step.Look) (λ e. let never : true ≡ false = or_right (nat_eq k 0) true e in cc)
-check_good x (pos k) (pos m) kills = by_test x step.Look Runs Runs x.exit (nat_eq k 0 || not (nat_eq m 0)) (goes_to step.Rest x.own) (finds_target x.own k)
-    (λ _. rests x step.Look)
-    (λ e. none m (nat_eq m 0) refl (or_right (nat_eq k 0) (not (nat_eq m 0)) e) kills (eqb-false k 0 (or_left (nat_eq k 0) (not (nat_eq m 0)) e)))
+kill_good : (x : Before) (n : ℕ) → KillsNext x (pos n) (pos 0) → 1 ≤ n → IsGood x step.Look Runs Runs x.exit (begins_kill x.own (pos n) (pos 0))
+kill_good x n kills low = by_test x step.Look Runs Runs x.exit (nat_eq n 0 || false) (goes_to step.Rest x.own) (finds_target x.own n)
+    (λ e. no_target (nat_eq n 0) refl e)
+    (λ e. target_good x n kills (λ z. absurd (omega arith)))
   where
-    none : (m : ℕ) (b : Bool) → nat_eq m 0 ≡ b → not b ≡ false → KillsNext x (pos k) (pos m) → k ≢ 0 → IsGood x step.Look Runs Runs x.exit (finds_target x.own k)
-    none m true is e kills some = target_good x k (subst (λ n. KillsNext x (pos k) (pos n)) (eqb-true m 0 is) kills) some
-    none m false is e kills some = cc
+    no_target : (c : Bool) → nat_eq n 0 ≡ c → (c || false) ≡ true → IsGood x step.Look Runs Runs x.exit (goes_to step.Rest x.own)
+    no_target true is e = let never : n ≡ 0 = eqb-true n 0 is in absurd (omega arith)
+    no_target false is e = cc
 
-kill_good : (x : Before) (q n : ℤ) → KillsNext x q n → IsGood x step.Look Runs Runs x.exit (begins_kill x.own q n)
-kill_good x q n kills = by_test x step.Look Runs Runs x.exit (is_invalid_kill q n) (answers x.own (negsuc 21) (event.Kill 2 q n (Error errno.EINVAL))) (checks_target x.own q n)
-    (λ invalid. kill_answered x step.Look (negsuc 21) q n (Error errno.EINVAL) (refused_step (code_in x) (image_of x.own) x.came q n x.first.program kills invalid))
-    (λ _. check_good x q n kills)
+the_call : (i j : Instr) → CallInstruction i ≡ CallInstruction j → i ≡ j
+the_call i j e = cc
 
 low_byte_small : (z : ℤ) → low_byte z < 256
 low_byte_small z = omega arith
 
-call_good : (x : Before) (i : Instr) → upcoming (code_in x) (image_of x.own) ≡ CallInstruction i → IsGood x step.Look Runs Runs x.exit (goes_on x.own (CallInstruction i))
-call_good x instr.GetPid next = answered x step.Look (pos 2) (event.Get 2 field.Pid (pos 2)) (get_pid_step (code_in x) (image_of x.own) x.came x.first.program next)
+call_good : (x : Before) (i : Instr) → upcoming (code_in x) (image_of x.own) ≡ CallInstruction i → is_first_form_instr i ≡ true
+    → IsGood x step.Look Runs Runs x.exit (goes_on x.own (CallInstruction i))
+call_good x instr.GetPid next form = answered x step.Look (pos 2) (event.Get 2 field.Pid (pos 2))
+    (λ i e. let is : i ≡ instr.GetPid = the_call i instr.GetPid (sym e ∙ next) in ap is_exit is)
+    (get_pid_step (code_in x) (image_of x.own) x.came x.first.program next)
     (λ called answer. record { place = own_turn x step.Look; death = tt; host = tt })
-call_good x (instr.Kill q n) next =
+call_good x (instr.Kill (Number (pos n)) (Number (pos k))) next form =
+    let in_range : (nat_le n 4001 && nat_eq k 0) ≡ true = and_right (nat_le 1 n) (nat_le n 4001 && nat_eq k 0) form in
+    let none : k ≡ 0 = eqb-true k 0 (and_right (nat_le n 4001) (nat_eq k 0) in_range) in
+    let low : 1 ≤ n = leb-true 1 n (and_left (nat_le 1 n) (nat_le n 4001 && nat_eq k 0) form) in
     let image : Image = image_of x.own in
-    let is : is_kill (CallInstruction (instr.Kill q n)) image (value_of image q) (value_of image n) ≡ true = rw (same_number (value_of image q), same_number (value_of image n)) refl in
-    kill_good x (value_of image q) (value_of image n) (ap (λ u. is_kill u image (value_of image q) (value_of image n)) next ∙ is)
-call_good x (instr.Exit v) next =
+    let is : is_kill (CallInstruction (instr.Kill (Number (pos n)) (Number (pos 0)))) image (pos n) (pos 0) ≡ true = rw (same_number (pos n)) refl in
+    let there : upcoming (code_in x) image ≡ CallInstruction (instr.Kill (Number (pos n)) (Number (pos 0))) =
+    subst (λ m. upcoming (code_in x) image ≡ CallInstruction (instr.Kill (Number (pos n)) (Number (pos m)))) none next in
+    subst (λ m. IsGood x step.Look Runs Runs x.exit (goes_on x.own (CallInstruction (instr.Kill (Number (pos n)) (Number (pos m)))))) (sym none)
+    (kill_good x n (ap (λ u. is_kill u image (pos n) (pos 0)) there ∙ is) low)
+call_good x (instr.Exit v) next form =
     let status : ℕ = low_byte (value_of (image_of x.own) v) in
     moves x step.Look (step.ExitWord status 0) Runs x.exit tt
     (refl, record { next = ap (λ u. exit_status u (image_of x.own)) next; small = low_byte_small (value_of (image_of x.own) v) })
-call_good x _ next = rests x step.Look
+call_good x _ next form = let never : false ≡ true = form in cc
 
-next_good : (x : Before) (u : Upcoming) → upcoming (code_in x) (image_of x.own) ≡ u → IsGood x step.Look Runs Runs x.exit (goes_on x.own u)
-next_good x (CallInstruction i) next = call_good x i next
-next_good x LocalInstruction next = rests x step.Look
-next_good x ImageFault next = rests x step.Look
+next_good : (x : Before) → IsGood x step.Look Runs Runs x.exit (goes_on x.own (upcoming (code_in x) (image_of x.own)))
+next_good x =
+    let coming : Called x = called_next x in
+    subst (λ u. IsGood x step.Look Runs Runs x.exit (goes_on x.own u)) (sym coming.next) (call_good x coming.it coming.next coming.form)
 
 -- the words
 
@@ -265,7 +304,7 @@ start_keeps x = after_load x step.Start Runs 0 (omega arith) refl (moves x step.
 look_keeps : (x : Before) → MainKeeps x step.Look Runs
 look_keeps x = after_load x step.Look Runs 1 (omega arith) refl
     (by_test x step.Look Runs Runs x.exit (nat_eq (length x.own.dat) 64) (goes_on x.own (upcoming (code_in x) (image_of x.own))) (goes_to step.Rest x.own)
-    (λ _. next_good x (upcoming (code_in x) (image_of x.own)) refl) (λ _. rests x step.Look))
+    (λ _. next_good x) (λ no. let never : true ≡ false = sym (eq-eqb 64 64 refl) ∙ ap (λ n. nat_eq n 64) (sym x.first.sized) ∙ no in cc))
 
 -- a word that was checked is that of a record exactly where the target is process 2
 word_of_target : (x : Before) (q : ℕ) → 2 ≤ q → is_record_word (get_or (words_at x.tail Runs x.exit) (main_index (q - 1)) 0) ≡ nat_eq 2 q
@@ -283,29 +322,31 @@ target_checked : (x : Before) (q : ℕ) (c : Bool) → nat_eq 2 q ≡ c → 2 �
 target_checked x q true e low kills =
     let is : 2 ≡ q = eqb-true 2 q e in
     let step_is = itself_step (code_in x) (image_of x.own) x.came x.first.program (subst (λ n. KillsNext x (pos n) (pos 0)) (sym is) kills) in
-    kill_answered x (step.Target q) (pos 0) (pos q) (pos 0) Zero
+    kill_answered x (step.Target q) (pos 0) (pos q) (pos 0) Zero kills
     (subst (λ n. PosixStep (code_in x ∷ []) (posix_of Runs (image_of x.own) x.came) (event.Kill 2 (pos n) (pos 0) Zero) (posix_of Runs (with_result (image_of x.own) (pos 0) None) x.came)) is step_is)
 target_checked x q false e low kills =
     let some : q ≢ 0 = λ z. absurd (omega arith) in
-    kill_answered x (step.Target q) (negsuc 2) (pos q) (pos 0) (Error errno.ESRCH)
+    kill_answered x (step.Target q) (negsuc 2) (pos q) (pos 0) (Error errno.ESRCH) kills
     (nobody_step (code_in x) (image_of x.own) x.came q x.first.program kills some (eqb-false 2 q e))
 
 target_word : (x : Before) (q w : ℕ) → 2 ≤ q → KillsNext x (pos q) (pos 0) → is_record_word w ≡ nat_eq 2 q → IsGood x (step.Target q) Runs Runs x.exit (checked x.own q w)
 target_word x q w low kills e = rw e (target_checked x q (nat_eq 2 q) refl low kills)
 
-target_reply : (x : Before) (q w : ℕ) (c : Bool) → IsGood x (step.Target q) Runs Runs x.exit (checked x.own q w)
+target_reply : (x : Before) (q w : ℕ) (c : Bool) → c ≡ true → IsGood x (step.Target q) Runs Runs x.exit (checked x.own q w)
     → IsGood x (step.Target q) Runs Runs x.exit (main_after (code_in x) (step.Target q) x.own (cond c (reply.Word w) reply.BadIndex))
-target_reply x q w true good = good
-target_reply x q w false good = rests x (step.Target q)
+target_reply x q w true e good = good
+target_reply x q w false e good = cc
 
-target_keeps : (x : Before) (q : ℕ) → 2 ≤ q → KillsNext x (pos q) (pos 0) → MainKeeps x (step.Target q) Runs
-target_keeps x q low kills called answer event next new d =
+target_keeps : (x : Before) (q : ℕ) → 2 ≤ q → q ≤ 4001 → KillsNext x (pos q) (pos 0) → MainKeeps x (step.Target q) Runs
+target_keeps x q low high kills called answer event next new d =
     let words : List ℕ = words_at x.tail Runs x.exit in
     let i : ℕ = main_index (q - 1) in
+    let there : i < length words = omega (arith, x.long) in
     let went : MainWent x.a x.b words (posted_at x.starter) (main_after (code_in x) (step.Target q) x.own (load_reply words i)) next event new =
     (main_loads x.a x.b x.objects words (posted_at x.starter) x.own i (step.Target q) x.setup called answer event next new d).1 in
     let good : IsGood x (step.Target q) Runs Runs x.exit (main_after (code_in x) (step.Target q) x.own (load_reply words i)) =
-    target_reply x q (get_or words i 0) (nat_lt i (length words)) (target_word x q (get_or words i 0) low kills (word_of_target x q low)) in
+    target_reply x q (get_or words i 0) (nat_lt i (length words)) (lt-ltb i (length words) there)
+    (target_word x q (get_or words i 0) low kills (word_of_target x q low)) in
     finish x (step.Target q) Runs Runs x.exit words (main_after (code_in x) (step.Target q) x.own (load_reply words i)) called answer event next new good refl went
 
 exit_keeps : (x : Before) (status old : ℕ) → ExitsNext (code_in x) x.own status → MainKeeps x (step.ExitWord status old) Runs
@@ -392,7 +433,7 @@ leave_keeps x status small called answer event next new d =
 pub main_keeps : (x : Before) (s : Step) (stage : Stage) → IsSmall stage → MainAt (code_in x) s stage x.exit x.own → MainKeeps x s stage
 main_keeps x step.Start stage small m = subst (λ g. MainKeeps x step.Start g) (sym m) (start_keeps x)
 main_keeps x step.Look stage small m = subst (λ g. MainKeeps x step.Look g) (sym m) (look_keeps x)
-main_keeps x (step.Target q) stage small m = subst (λ g. MainKeeps x (step.Target q) g) (sym m.0) (target_keeps x q m.2 m.1)
+main_keeps x (step.Target q) stage small m = subst (λ g. MainKeeps x (step.Target q) g) (sym m.0) (target_keeps x q m.2 m.3 m.1)
 main_keeps x (step.ExitWord status old) stage small m = subst (λ g. MainKeeps x (step.ExitWord status old) g) (sym m.0) (exit_keeps x status old m.1)
 main_keeps x (step.Sealing status) stage small m = subst (λ g. MainKeeps x (step.Sealing status) g) (sym m.0) (sealing_keeps x status m.1 m.2)
 main_keeps x (step.Seal status main) stage small m =
@@ -404,7 +445,6 @@ main_keeps x (step.Gather status main) stage small m =
     subst (λ g. MainKeeps x (step.Gather status main) g) (sym m.0)
     (subst (λ w. MainKeeps x (step.Gather status w) (Died status)) (sym m.1) (gather_keeps x status (subst IsSmall m.0 small)))
 main_keeps x (step.Leave status) stage small m = subst (λ g. MainKeeps x (step.Leave status) g) (sym m) (leave_keeps x status (subst IsSmall m small))
-main_keeps x step.Rest stage small m = λ called answer event next new d.
-    absurd (main_rests x.a x.b (words_at x.tail stage x.exit) (posted_at x.starter) x.own (main_part step.Rest) x.setup called answer event next new d)
+main_keeps x step.Rest stage small m = absurd m
 main_keeps x step.Waiting stage small m = absurd m
 main_keeps x step.Asking stage small m = absurd m

@@ -12,7 +12,7 @@ use Rattle.w32_base.specs.declared.instr.Instr.TheVariants as instr
 use Rattle.vm_spec.specs.Image.{Image, program_of, with_result}
 use Rattle.vm_spec.specs.Step.{CallInstruction, upcoming}
 use Rattle.posix_spec.specs.State.{PosixState, Running, opening_terminal}
-use Rattle.posix_spec.specs.Step.{posix_step, next_of, is_kill, is_invalid_kill, is_same_number, exit_status}
+use Rattle.posix_spec.specs.Step.{posix_step, next_of, is_kill, is_same_number, exit_status}
 use Rattle.posix_spec.specs.Run.{PosixStep}
 use Rattle.cyg_cli.proofs.Shapes.{Stage, Runs, Died, Left, first_record, records_at, status_at}
 
@@ -41,13 +41,6 @@ unfolding posix_step
 get_pid_step code image came first next =
     let e : next_of (code ∷ []) (first_record Running image) ≡ CallInstruction instr.GetPid = next_is code image first ∙ next in
     rw e refl
-
-pub refused_step : (code : List Instr) (image : Image) (came : Bool) (q s : ℤ) → program_of image ≡ 0 → is_kill (upcoming code image) image q s ≡ true → is_invalid_kill q s ≡ true
-    → PosixStep (code ∷ []) (posix_of Runs image came) (event.Kill 2 q s (Error errno.EINVAL)) (posix_of Runs (with_result image (negsuc 21) None) came)
-unfolding posix_step
-refused_step code image came q s first kills invalid =
-    let e : is_kill (next_of (code ∷ []) (first_record Running image)) image q s ≡ true = ap (λ u. is_kill u image q s) (next_is code image first) ∙ kills in
-    rw (e, invalid) refl
 
 pub nobody_step : (code : List Instr) (image : Image) (came : Bool) (n : ℕ) → program_of image ≡ 0 → is_kill (upcoming code image) image (pos n) (pos 0) ≡ true
     → n ≢ 0 → 2 ≢ n

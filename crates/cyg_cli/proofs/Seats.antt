@@ -284,12 +284,7 @@ main_leaves a b o words hp own code s setup called answer event next new d =
     subst (λ (m : Win32State). MatchBool (is_live (process_of m.processes 2)) (PartGoes Goes call_of m 2 0 (main_part s) setup answer event next new)
     ((new ≡ m) × (event ≡ None) × (next ≡ main_part s))) k c.goes_on
 
--- a thread that rests has no turn
-pub main_rests : (a b : ℕ) (words : List ℕ) (hp : Call) (own : Own) (part : ThreadPart) (setup : Setup) (called : Call) (answer : Reply) (event : Option Event) (next : ThreadPart) (new : Win32State)
-    → DrivenStep Goes call_of (state_at a b words hp Alive (call.WaitAny []) own) 1 0 part setup called answer event next new → ⊥
-main_rests a b words hp own part setup called answer event next new d =
-    (main_carried a b words hp (call.WaitAny []) own part setup called answer event next new d).step
-
+-- a starter that rests has no turn
 pub starter_rests : (a b : ℕ) (words : List ℕ) (life : Life) (lp : Call) (own : Own) (part : ThreadPart) (setup : Setup) (called : Call) (answer : Reply) (event : Option Event) (next : ThreadPart) (new : Win32State)
     → DrivenStep Goes call_of (state_at a b words (call.WaitAny []) life lp own) 0 1 part setup called answer event next new → ⊥
 starter_rests a b words life lp own part setup called answer event next new d =

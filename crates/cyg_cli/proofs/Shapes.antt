@@ -10,7 +10,7 @@ use Rattle.win32_spec.specs.State.{Life, Alive, Ended, Process, Win32State}
 use Rattle.win32_spec.specs.Handles.{is_listed}
 use Rattle.win32_spec.specs.Lookup.{is_alive, process_of}
 use Rattle.win32_spec.specs.Opening.{first_main_word, first_group_word}
-use Rattle.vm_spec.specs.Image.{Image, image_of, program_of, word_at}
+use Rattle.vm_spec.specs.Image.{Image, image_of, program_of, place_of, in_use, word_at}
 use Rattle.vm_spec.specs.Step.{upcoming}
 use Rattle.posix_spec.specs.State.{Record, Numbered, PosixState, Running, Zombie, NoCall, record_of, opening_record, opening_terminal}
 use Rattle.posix_spec.specs.State.{Life as PosixLife}
@@ -20,6 +20,7 @@ use Rattle.layer_spec.specs.Decodes.{Decodes, ShowsRecord, HoldsRecord, main_wor
 use Rattle.cyg_cli.specs.declared.layer.step.Step.{Step}
 use Rattle.cyg_cli.specs.declared.layer.step.Step.TheVariants as step
 use Rattle.cyg_cli.specs.Layer.{posted_at}
+use Rattle.cyg_cli.proofs.Codes.{IsAhead}
 use Rattle.cyg_cli.proofs.Seats.{state_at, layer_at}
 
 -- whether the process runs, has died, or is gone from its row
@@ -97,11 +98,14 @@ posix_at x = record {
 abbrev pub opening_cyg : List ℕ
 opening_cyg = 1 ∷ replicate 287 0
 
--- the memory of the first process: its program is the first one, and its cygheap is as it was
-pub record IsFirst (own : Own) : Type 0 where
+-- The memory of the first process: its program is the first one, no stack is in use, its cygheap is as it was, and what is
+-- left of the program is of the first form.
+pub record IsFirst (code : List Instr) (own : Own) : Type 0 where
   pub sized : length own.dat ≡ 64
   pub program : program_of (image_of own) ≡ 0
+  pub empty : in_use (image_of own) ≡ 0
   pub cyg : own.cyg ≡ opening_cyg
+  pub ahead : IsAhead code (place_of (image_of own))
 
 -- what is next is an exit with this status
 pub record ExitsNext (code : List Instr) (own : Own) (status : ℕ) : Type 0 where
@@ -112,14 +116,13 @@ pub record ExitsNext (code : List Instr) (own : Own) (status : ℕ) : Type 0 whe
 abbrev pub MainAt : List Instr → Step → Stage → ℕ → Own → Type 0
 MainAt code step.Start stage exit own = stage ≡ Runs
 MainAt code step.Look stage exit own = stage ≡ Runs
-MainAt code (step.Target q) stage exit own = (stage ≡ Runs) × (is_kill (upcoming code (image_of own)) (image_of own) (pos q) (pos 0) ≡ true) × (2 ≤ q)
+MainAt code (step.Target q) stage exit own = (stage ≡ Runs) × (is_kill (upcoming code (image_of own)) (image_of own) (pos q) (pos 0) ≡ true) × (2 ≤ q) × (q ≤ 4001)
 MainAt code (step.ExitWord status old) stage exit own = (stage ≡ Runs) × ExitsNext code own status
 MainAt code (step.Sealing status) stage exit own = (stage ≡ Runs) × ExitsNext code own status × (exit ≡ exit_word 2 status)
 MainAt code (step.Seal status main) stage exit own = (stage ≡ Runs) × ExitsNext code own status × (exit ≡ exit_word 2 status) × (main ≡ first_main_word)
 MainAt code (step.Parent status main) stage exit own = (stage ≡ Died status) × (main ≡ sealed_word first_main_word status)
 MainAt code (step.Gather status main) stage exit own = (stage ≡ Died status) × (main ≡ sealed_word first_main_word status)
 MainAt code (step.Leave status) stage exit own = stage ≡ Left status
-MainAt code step.Rest stage exit own = stage ≡ Runs
 MainAt code _ stage exit own = ⊥
 
 -- what holds where the starter is at a step
@@ -136,7 +139,7 @@ IsSmall (Died status) = status < 256
 IsSmall (Left status) = status < 256
 
 pub record Fits (code : List Instr) (x : Shape) : Type 0 where
-  pub first : IsFirst x.own
+  pub first : IsFirst code x.own
   pub small : IsSmall x.stage
   pub ended : (status : ℕ) → x.life ≡ Ended status → x.stage ≡ Left status
   pub main : MainAt code x.main x.stage x.exit x.own

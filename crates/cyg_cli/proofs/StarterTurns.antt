@@ -1,5 +1,5 @@
 -- What each turn of the host's starter keeps and shows.
-use Rattle.std.proofs.Common.{◌≡◌, ℕ, Bool, true, false, List, [], ◌∷◌, Option, Some, None, refl, sym, ◌∙◌, ap, subst, arith}
+use Rattle.std.proofs.Common.{◌≡◌, ℕ, ◌<◌, Bool, true, false, List, [], ◌∷◌, Option, Some, None, refl, sym, ◌∙◌, ap, subst, arith}
 use Rattle.std.specs.Prelude.{MatchOption}
 use Rattle.w32_base.specs.declared.call.Call.{Call}
 use Rattle.w32_base.specs.declared.call.Call.TheVariants as call
@@ -15,7 +15,7 @@ use Rattle.win32_spec.specs.Lookup.{no_memory}
 use Rattle.win32_spec.specs.Call.{process_named}
 use Rattle.vm_spec.specs.Image.{image_of}
 use Rattle.posix_spec.specs.Run.{PosixStep}
-use Rattle.layer_spec.specs.Evidence.{HasEvidence}
+use Rattle.layer_spec.specs.Evidence.{Seen, HasEvidence, was_ended}
 use Rattle.w32_machine.specs.Contract.{DrivenStep}
 use Rattle.cyg_cli.specs.declared.layer.part.ThreadPart.{ThreadPart}
 use Rattle.cyg_cli.specs.declared.layer.step.Step.{Step}
@@ -24,26 +24,28 @@ use Rattle.cyg_cli.specs.Entries.{turn_entry}
 use Rattle.cyg_cli.specs.Layer.{posted_at, starter_after}
 use Rattle.cyg_cli.specs.ThreadPart.{call_of, Goes}
 use Rattle.cyg_cli.proofs.Seats.{AreObjects, Carried, state_at, starter_part, StarterWent, starter_carried, starter_stays, starter_rests, host_load, host_waits, host_asks, host_process}
-use Rattle.cyg_cli.proofs.Shapes.{Stage, Left, words_at, StarterAt}
+use Rattle.cyg_cli.proofs.Shapes.{Stage, Left, words_at, StarterAt, IsSmall}
 use Rattle.cyg_cli.proofs.PosixSteps.{posix_of, host_step}
 use Rattle.cyg_cli.proofs.MainTurns.{load_is}
 
 -- what stands before a turn of the starter, but for its step, the stage, the layer process's life and whether the host came
-pub record Around : Type 0 where
+pub record StarterBefore : Type 0 where
   pub a : ℕ
   pub b : ℕ
   pub objects : AreObjects a b
   pub tail : List ℕ
   pub setup : Setup
+  pub past : List Seen
+  pub calm : was_ended past 2 ≡ false
   pub exit : ℕ
   pub own : Own
   pub main : Step
   pub codes : List (List Instr)
 
-abbrev pub state_around : Around → Step → Stage → Life → Win32State
+abbrev pub state_around : StarterBefore → Step → Stage → Life → Win32State
 state_around x s stage life = state_at x.a x.b (words_at x.tail stage x.exit) (posted_at s) life (posted_at x.main) x.own
 
-pub record StarterKept (x : Around) (s : Step) (stage : Stage) (life : Life) (came : Bool) (called : Call) (answer : Reply) (told : Option Event) (next : ThreadPart) (new : Win32State) : Type 0 where
+pub record StarterKept (x : StarterBefore) (s : Step) (stage : Stage) (life : Life) (came : Bool) (called : Call) (answer : Reply) (told : Option Event) (next : ThreadPart) (new : Win32State) : Type 0 where
   pub starter : Step
   pub now : Bool
   pub holds : StarterAt starter now life
@@ -51,15 +53,15 @@ pub record StarterKept (x : Around) (s : Step) (stage : Stage) (life : Life) (ca
   pub part : next ≡ starter_part starter
   pub event : MatchOption told (posix_of stage (image_of x.own) now ≡ posix_of stage (image_of x.own) came)
       (λ e. PosixStep x.codes (posix_of stage (image_of x.own) came) e (posix_of stage (image_of x.own) now))
-  pub evidence : HasEvidence (state_around x s stage life) (turn_entry 0 1 called answer told)
+  pub evidence : HasEvidence x.past (state_around x s stage life) (turn_entry 0 1 called answer told)
 
-abbrev pub StarterKeeps : Around → Step → Stage → Life → Bool → Type 0
+abbrev pub StarterKeeps : StarterBefore → Step → Stage → Life → Bool → Type 0
 StarterKeeps x s stage life came = (called : Call) (answer : Reply) (told : Option Event) (next : ThreadPart) (new : Win32State)
     → DrivenStep Goes call_of (state_around x s stage life) 0 1 (starter_part s) x.setup called answer told next new
     → StarterKept x s stage life came called answer told next new
 
 -- the starter goes on to another step without an event
-goes_on : (x : Around) (s after : Step) (stage : Stage) (life : Life) (came : Bool) (called : Call) (answer : Reply) (told : Option Event) (next : ThreadPart) (new : Win32State)
+goes_on : (x : StarterBefore) (s after : Step) (stage : Stage) (life : Life) (came : Bool) (called : Call) (answer : Reply) (told : Option Event) (next : ThreadPart) (new : Win32State)
     → StarterAt after came life
     → StarterWent x.a x.b (words_at x.tail stage x.exit) life (posted_at x.main) x.own (record { step = after; own = no_memory; event = None }) next told new
     → StarterKept x s stage life came called answer told next new
@@ -67,7 +69,7 @@ goes_on x s after stage life came called answer told next new holds went =
     let P : Option Event → Type 0 = λ o. StarterKept x s stage life came called answer o next new in
     subst P (sym went.told) (record { starter = after; now = came; holds = holds; machine = went.after; part = went.part; event = refl; evidence = tt })
 
-begin_keeps : (x : Around) (stage : Stage) (life : Life) (came : Bool) → came ≡ false → StarterKeeps x step.Start stage life came
+begin_keeps : (x : StarterBefore) (stage : Stage) (life : Life) (came : Bool) → came ≡ false → StarterKeeps x step.Start stage life came
 begin_keeps x stage life came not_yet called answer told next new d =
     let words : List ℕ = words_at x.tail stage x.exit in
     let c : Carried (state_around x step.Start stage life) 1 1 (call.Load 1 0) (starter_part step.Start) x.setup called answer told next new =
@@ -77,7 +79,7 @@ begin_keeps x stage life came not_yet called answer told next new d =
     (starter_stays x.a x.b words (call.Load 1 0) life (posted_at x.main) x.own step.Start x.setup called answer (reply.Word 1) told next new c
     (k.0 ∙ load_is x.tail stage x.exit 0 (omega arith)) k.1)
 
-wait_keeps : (x : Around) (stage : Stage) (life : Life) (came : Bool) → came ≡ false → StarterKeeps x step.Waiting stage life came
+wait_keeps : (x : StarterBefore) (stage : Stage) (life : Life) (came : Bool) → came ≡ false → StarterKeeps x step.Waiting stage life came
 wait_keeps x stage life came not_yet called answer told next new d =
     let words : List ℕ = words_at x.tail stage x.exit in
     let hp : Call = call.WaitAny (4 ∷ []) in
@@ -88,8 +90,11 @@ wait_keeps x stage life came not_yet called answer told next new d =
     goes_on x step.Waiting step.Asking stage life came called answer told next new (not_yet, (k.0, k.1))
     (starter_stays x.a x.b words hp life (posted_at x.main) x.own step.Waiting x.setup called answer (reply.Woke 0) told next new c k.2 stays)
 
-ask_keeps : (x : Around) (code : ℕ) → StarterKeeps x step.Asking (Left code) (Ended code) false
-ask_keeps x code called answer told next new d =
+never_ended : (past : List Seen) → was_ended past 2 ≡ false → was_ended past 2 ≡ true → ⊥
+never_ended past calm ended = let never : false ≡ true = sym calm ∙ ended in cc
+
+ask_keeps : (x : StarterBefore) (code : ℕ) → code < 256 → StarterKeeps x step.Asking (Left code) (Ended code) false
+ask_keeps x code small called answer told next new d =
     let words : List ℕ = words_at x.tail (Left code) x.exit in
     let hp : Call = call.ExitCode 4 in
     let s : Win32State = state_around x step.Asking (Left code) (Ended code) in
@@ -116,19 +121,20 @@ ask_keeps x code called answer told next new d =
           names = ap process_named (host_process x.a x.b x.objects words hp (Ended code) (posted_at x.main) x.own);
           answered = ap outcome.Step k.0;
           told = refl;
+          outside = ((λ large. absurd (omega (arith, large, small))), (λ ended. absurd (never_ended x.past x.calm ended)));
         };
       };
     })
 
-pub starter_keeps : (x : Around) (s : Step) (stage : Stage) (life : Life) (came : Bool) → ((status : ℕ) → life ≡ Ended status → stage ≡ Left status)
-    → StarterAt s came life → StarterKeeps x s stage life came
-starter_keeps x step.Start stage life came ended h = begin_keeps x stage life came h
-starter_keeps x step.Waiting stage life came ended h = wait_keeps x stage life came h
-starter_keeps x step.Asking stage life came ended h =
+pub starter_keeps : (x : StarterBefore) (s : Step) (stage : Stage) (life : Life) (came : Bool) → ((status : ℕ) → life ≡ Ended status → stage ≡ Left status)
+    → IsSmall stage → StarterAt s came life → StarterKeeps x s stage life came
+starter_keeps x step.Start stage life came ended small h = begin_keeps x stage life came h
+starter_keeps x step.Waiting stage life came ended small h = wait_keeps x stage life came h
+starter_keeps x step.Asking stage life came ended small h =
     let code : ℕ = h.1.0 in
     subst (λ c. StarterKeeps x step.Asking stage life c) (sym h.0)
     (subst (λ l. StarterKeeps x step.Asking stage l false) (sym h.1.1)
-    (subst (λ g. StarterKeeps x step.Asking g (Ended code) false) (sym (ended code h.1.1)) (ask_keeps x code)))
-starter_keeps x step.Rest stage life came ended h = λ called answer told next new d.
+    (subst (λ g. StarterKeeps x step.Asking g (Ended code) false) (sym (ended code h.1.1)) (ask_keeps x code (subst IsSmall (ended code h.1.1) small))))
+starter_keeps x step.Rest stage life came ended small h = λ called answer told next new d.
     absurd (starter_rests x.a x.b (words_at x.tail stage x.exit) life (posted_at x.main) x.own (starter_part step.Rest) x.setup called answer told next new d)
-starter_keeps x _ stage life came ended h = absurd h
+starter_keeps x _ stage life came ended small h = absurd h

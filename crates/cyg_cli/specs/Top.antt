@@ -1,5 +1,5 @@
 -- How the top call ends.
-use Rattle.std.specs.Prelude.{◌≡◌, ◌≢◌, ℕ, ◌⊎◌, List, [], ◌∷◌, ◌++◌, Option, IfSome, codes}
+use Rattle.std.specs.Prelude.{◌≡◌, ◌≢◌, ℕ, ◌⊎◌, true, List, [], ◌∷◌, ◌++◌, Option, IfSome, codes}
 use Rattle.std.specs.Io.KnownBytes.{Appends}
 use Rattle.w32_base.specs.declared.entry.Entry.{Entry}
 use Rattle.w32_base.specs.declared.entry.End.{End}
@@ -9,6 +9,7 @@ use Rattle.w32_base.specs.declared.setup.Setup.{Setup}
 use Rattle.cyg_io.specs.Counts.{Rose, RoseBy}
 use Rattle.cyg_io.specs.Sink.{AppendsPart}
 use Rattle.first_form.specs.OneProgram.{IsOneProgram}
+use Rattle.posix_spec.specs.State.{PosixState}
 use Rattle.layer_spec.specs.FirstForm.{IsFirstForm}
 use Rattle.layer_spec.specs.LogText.{calls_log}
 use Rattle.layer_spec.specs.Headline.{Headline}
@@ -50,8 +51,13 @@ pub record Refuses (before after : Outside) : Type 0 where
   pub read : IsRead before.ends after.ends before.given after.given
   pub text : IfSome before.left IsUnbuilt
 
+-- every process is gone, and the host has read the status of the first one
+pub record IsSettled (p : PosixState) : Type 0 where
+  pub gone : p.records ≡ []
+  pub read : p.host_came ≡ true
+
 -- The text was read to its end and is a script of the first form, whose program was run: the journal follows the
--- schedule, and its events and states have the headline.
+-- schedule, its events and states have the headline, and a run that ends quiet leaves no process.
 pub record Runs (before after : Outside) (entries : List Entry) (end : End) : Type 0 where
   pub budget : ℕ
   pub code : List Instr
@@ -61,6 +67,7 @@ pub record Runs (before after : Outside) (entries : List Entry) (end : End) : Ty
   pub script : IsOneProgram setup budget code
   pub run : IsRunOf setup entries end
   pub headline : Headline setup entries end
+  pub settled : end ≡ Quiet → IsSettled headline.posix_last
 
 -- The ways in which the top call ends, with its status and its journal.
 pub data Ends (words : List (List ℕ)) (before after : Outside) (status : ℕ) (entries : List Entry) : Type 0 where
@@ -81,7 +88,8 @@ pub data Ends (words : List (List ℕ)) (before after : Outside) (status : ℕ) 
   LoggedInPart : (end : End) → words ≡ run_calls → Runs before after entries end → AppendsPart before.held after.held (calls_log entries end)
       → Rose before.write_faults after.write_faults → status ≡ 5 → Ends words before after status entries
 
--- Where the source told its bytes, they were a script, and this is the journal of a run of what it sets up.
+-- Where the source told its bytes, they were a script, and this is the journal of a run of what it sets up. A run that ends
+-- quiet leaves no process.
 pub record IsJournalOf (left : Option (List ℕ)) (entries : List Entry) : Type 0 where
   pub budget : ℕ
   pub code : List Instr
@@ -90,6 +98,7 @@ pub record IsJournalOf (left : Option (List ℕ)) (entries : List Entry) : Type 
   pub script : IsOneProgram setup budget code
   pub end : End
   pub headline : Headline setup entries end
+  pub settled : end ≡ Quiet → IsSettled headline.posix_last
 
 -- if the text is a script, it was run to its end or to its budget, or memory ran out
 abbrev pub IsRunOrShort : ℕ → List ℕ → Type 0

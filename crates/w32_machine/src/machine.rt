@@ -65,7 +65,8 @@ impl Machine {
 
     /// A machine in the state in which a run of the program begins.
     pub fn open(alloc: Global, program: &Program) -> Result<Machine, AllocError>
-        ensures { IfOk result (λ m. IsOpening program.now m) }
+        ensures opening { IfOk result (λ m. IsOpening program.now m) }
+        ensures section { IfOk result (λ m. IsSome (section_words m.objects)) }
     {
         let words = words::open_words(alloc)?;
         let own = open_memory(alloc, program)?;

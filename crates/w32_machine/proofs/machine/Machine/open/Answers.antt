@@ -21,8 +21,8 @@ opening_is program words host layer i j e f g h k =
 pub invariant_of-result : goal.invariant_of-result
 invariant_of-result c = record { words = c.in_ok-words.ensures.len; host = refl; layer = refl }
 
-pub returns : goal.returns
-returns c = record {
+pub returns-clause-opening : goal.returns-clause-opening
+returns-clause-opening c = record {
   section = 0;
   process = 1;
   differ = λ e. absurd (omega arith);
