@@ -34,7 +34,7 @@ only_scripts words before after status entries (LoggedInPart end w r app rose s)
 -- what a run answers is the journal of a script
 journal_of : (before after : Outside) (entries : List Entry) (end : End) → Runs before after entries end → IsJournalOf before.left entries
 journal_of before after entries end r =
-    record { budget = r.budget; code = r.code; setup = r.setup; text = r.text; script = r.script; end = end; headline = r.headline; settled = r.settled }
+    record { budget = r.budget; code = r.code; setup = r.setup; text = r.text; script = r.script; end = end; headline = r.headline; settled = r.settled; ends_quiet = r.ends_quiet }
 
 pub journal_told : (words : List (List ℕ)) (before after : Outside) (status : ℕ) (entries : List Entry) → Ends words before after status entries
     → entries ≢ [] → IsJournalOf before.left entries

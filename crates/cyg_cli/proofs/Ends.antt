@@ -1,5 +1,5 @@
 -- The ways in which the top call ends, by what its parts did.
-use Rattle.std.proofs.Common.{◌≡◌, ℕ, List, Option, Some, None, inl, inr, subst, arith}
+use Rattle.std.proofs.Common.{◌≡◌, ◌≤◌, ℕ, List, Option, Some, None, inl, inr, subst, arith}
 use Rattle.std.specs.Prelude.{IfSome}
 use Rattle.w32_base.specs.declared.entry.Entry.{Entry}
 use Rattle.w32_base.specs.declared.entry.End.TheVariants.{Quiet}
@@ -10,7 +10,7 @@ use Rattle.cyg_io.specs.Source.{Draws}
 use Rattle.first_form.specs.OneProgram.{IsOneProgram}
 use Rattle.layer_spec.specs.FirstForm.{IsFirstForm}
 use Rattle.layer_spec.specs.Headline.{Headline}
-use Rattle.cyg_cli.specs.Top.{Outside, run_calls, Ends, Refused, RefusedInPart, Logged, LoggedInPart, NoMemory, Refuses, Runs, IsSettled, IsUnbuilt}
+use Rattle.cyg_cli.specs.Top.{Outside, run_calls, Ends, Refused, RefusedInPart, Logged, LoggedInPart, NoMemory, Refuses, Runs, IsSettled, enough_turns, IsUnbuilt}
 use Rattle.cyg_cli.specs.TopParts.{IsRefusal, IsLogOf, IsLogging}
 use Rattle.cyg_cli.proofs.Texts.{first_form_short}
 use Rattle.cyg_cli.proofs.Headlines.{headline_of}
@@ -35,7 +35,7 @@ pub logging_ends : (words : List (List ℕ)) (before after : Outside) (status : 
 logging_ends words before after status entries setup text budget code w ended told form script (inr (s, same, e)) = NoMemory w same s e
 logging_ends words before after status entries setup text budget code w ended told form script (inl (end, run, parts, log)) = by_log log
   where
-    has : (h : Headline setup entries end) × (end ≡ Quiet → IsSettled h.posix_last)
+    has : (h : Headline setup entries end) × (end ≡ Quiet → IsSettled h.posix_last) × (enough_turns code ≤ budget → end ≡ Quiet)
     has = headline_of setup entries end budget code parts script form.instructions form.code_in_range
 
     ran : Runs before after entries end
@@ -49,6 +49,7 @@ logging_ends words before after status entries setup text budget code w ended to
       run = run;
       headline = has.0;
       settled = has.1;
+      ends_quiet = has.2;
     }
 
     by_log : IsLogOf entries end before.held after.held before.write_faults after.write_faults status entries → Ends words before after status entries

@@ -1,5 +1,5 @@
 -- A run by the parts of the threads has the headline.
-use Rattle.std.proofs.Common.{◌≡◌, ℕ, ◌*◌, Bool, true, false, cond, nat_eq, List, [], ◌∷◌, map, replicate, Option, Some, None, refl, sym, ◌∙◌, ap, subst, arith, inl, inr, ◌⊎◌, zero, suc, length, ◌≤◌}
+use Rattle.std.proofs.Common.{◌≡◌, ℕ, ◌*◌, Bool, true, false, cond, nat_eq, List, [], ◌∷◌, map, replicate, Option, Some, None, refl, sym, ◌∙◌, ap, subst, arith, inl, inr, ◌⊎◌, zero, suc, length, ◌+◌, ◌<◌, ◌≤◌}
 use Rattle.std.specs.Prelude.{MatchBool, MatchOption}
 use Rattle.std.proofs.lemmas.Bool.{eqb-true, eqb-false}
 use Rattle.w32_base.specs.declared.call.Call.{Call}
@@ -10,7 +10,7 @@ use Rattle.w32_base.specs.declared.entry.Entry.{Entry}
 use Rattle.w32_base.specs.declared.entry.Directive.{Directive}
 use Rattle.w32_base.specs.declared.entry.Directive.TheVariants.{Turn}
 use Rattle.w32_base.specs.declared.entry.End.{End}
-use Rattle.w32_base.specs.declared.entry.End.TheVariants.{Quiet}
+use Rattle.w32_base.specs.declared.entry.End.TheVariants.{Quiet, Given, Budget}
 use Rattle.w32_base.specs.declared.instr.Instr.{Instr}
 use Rattle.w32_base.specs.declared.own.Own.{Own}
 use Rattle.w32_base.specs.declared.setup.Program.{Program}
@@ -19,7 +19,7 @@ use Rattle.win32_spec.specs.State.{Life, Alive, Ended, Process, Thread, Win32Sta
 use Rattle.win32_spec.specs.Lookup.{is_alive, process_of, process_in, thread_in}
 use Rattle.win32_spec.specs.Opening.{opening_words, opening_memory}
 use Rattle.win32_spec.specs.Call.{CallStep}
-use Rattle.win32_spec.specs.Ready.{is_ready, IsQuiet}
+use Rattle.win32_spec.specs.Ready.{is_ready, is_process_ready, is_thread_ready, IsQuiet}
 use Rattle.win32_spec.specs.Run.{is_live}
 use Rattle.win32_spec.specs.Schedule.{Settle, EndsBy}
 use Rattle.vm_spec.specs.Image.{image_of, word_at}
@@ -40,11 +40,11 @@ use Rattle.cyg_cli.specs.declared.world.World.{World}
 use Rattle.cyg_cli.specs.Entries.{turn_entry}
 use Rattle.cyg_cli.specs.Layer.{posted_at, first_code}
 use Rattle.cyg_cli.specs.ThreadPart.{call_of, Goes}
-use Rattle.cyg_cli.specs.Top.{IsSettled}
+use Rattle.cyg_cli.specs.Top.{IsSettled, enough_turns}
 use Rattle.cyg_cli.specs.World.{Turns, DrivenRun, IsWorldOpening, RunsToTheEnd}
 use Rattle.cyg_cli.proofs.Schedules.{round_at, round_given, round_step}
 use Rattle.cyg_cli.proofs.Seats.{AreObjects, even_objects, state_at, host_at, layer_at, main_part, starter_part}
-use Rattle.cyg_cli.proofs.Shapes.{Stage, Runs, Died, Left, Shape, words_at, machine_at, posix_at, records_at, IsFirst, MainAt, StarterAt, IsSmall, Fits, of_row, sealed_kind, decodes_at}
+use Rattle.cyg_cli.proofs.Shapes.{Stage, Runs, Died, Left, Shape, words_at, machine_at, posix_at, records_at, IsFirst, MainAt, StarterAt, IsSmall, Fits, main_turns, starter_turns, turns_by, left_in, turns_left, of_row, sealed_kind, decodes_at}
 use Rattle.cyg_cli.proofs.MainTurns.{IsZeros, Before, Kept, main_keeps, far_word}
 use Rattle.cyg_cli.proofs.StarterTurns.{StarterBefore, StarterKept, starter_keeps}
 
@@ -182,8 +182,9 @@ record Next (g : Around) (past : List Seen) (x : Shape) (e : Entry) (new : World
   evidence : HasEvidence past (machine_of g x) e
   turn : IsPlainTurn e
   lives : x.stage ≡ Runs → x.life ≡ Alive → shape.life ≡ Alive
+  fewer : turns_left (code_of g) shape < turns_left (code_of g) x
 
--- The parts' turns.
+-- the turns of the parts
 
 starter_next : (g : Around) (past : List Seen) → was_ended past 2 ≡ false → (x : Shape) → Fits (code_of g) x → (new : World)
     → (called : Call) (answer : Reply) (event : Option Event) → new.main ≡ main_part x.main
@@ -201,6 +202,7 @@ starter_next g past calm x f new called answer event rest d =
       evidence = k.evidence;
       turn = record { slot = 0; thread = 1; called = called; turn = refl; call_is = refl; plain = plain_turn (machine_of g x) 0 1 (starter_part x.starter) g.setup called answer event new.starter new.machine d };
       lives = λ _ alive. alive;
+      fewer = omega (arith, k.fewer);
     }
 
 main_next : (g : Around) (past : List Seen) (x : Shape) → Fits (code_of g) x → x.life ≡ Alive → (new : World)
@@ -238,6 +240,7 @@ main_next g past x f alive new called answer event rest d =
       evidence = subst (λ l. HasEvidence past (state_at g.a g.b words (posted_at x.starter) l (posted_at x.main) x.own) (turn_entry 1 0 called answer event)) (sym alive) k.evidence;
       turn = record { slot = 1; thread = 0; called = called; turn = refl; call_is = refl; plain = plain_turn (machine_of g x) 1 0 (main_part x.main) g.setup called answer event new.main new.machine d };
       lives = λ runs _. k.lives runs;
+      fewer = subst (λ l. turns_left (code_of g) k.shape < turns_by l x.main (left_in (code_of g) x.own) + starter_turns x.starter) (sym alive) k.fewer;
     }
 
 -- where a thread of slot 0 has a turn, it is the starter; else it is the main thread
@@ -290,6 +293,7 @@ record Ran (g : Around) (past : List Seen) (w : World) (last : ℕ × ℕ) (x : 
   fits : Fits (code_of g) shape
   stands : Stands g shape new
   run : HeadlineRun (code_of g ∷ []) 1 past w.machine (round_at last) (posix_at x) es new.machine (round_at next) (posix_at shape)
+  count : length es + turns_left (code_of g) shape ≤ turns_left (code_of g) x
 
 run_is : (g : Around) (past : List Seen) → was_ended past 2 ≡ false → (x : Shape) → Fits (code_of g) x → (w : World) → Stands g x w
     → (last : ℕ × ℕ) (es : List Entry) (new : World) (next : ℕ × ℕ) → DrivenRun g.setup w last es new next → Ran g past w last x es new next
@@ -298,6 +302,7 @@ run_is g past calm x f w at last [] new next run = record {
   fits = f;
   stands = subst (λ (v : World). Stands g x v) (sym run.0) at;
   run = (ap (λ (v : World). v.machine) run.0, ap round_at run.1, refl);
+  count = omega arith;
 }
 run_is g past calm x f w at last (e ∷ es) new next run =
     let n : Next g past x e run.0 = next_of_turn g past calm x f w run.0 at run.1.0 run.1.1 e run.2.turn in
@@ -317,6 +322,7 @@ run_is g past calm x f w at last (e ∷ es) new next run =
       fits = rest.fits;
       stands = rest.stands;
       run = (run.0.machine, round_at run.1, posix_at n.shape, round_given g.setup w last e run.0 run.1 run.2, one, rest.run);
+      count = omega (arith, rest.count, n.fewer);
     }
 
 -- a state in which no thread is ready
@@ -360,6 +366,47 @@ settled_at g x f quiet = by_life x.life refl
       read = by_came code x.came is refl;
     }
 
+-- a state in which no turn is left
+
+quiet_at : (a b : ℕ) (words : List ℕ) (code : ℕ) (lp : Call) (own : Own) → IsQuiet (state_at a b words (call.WaitAny []) (Ended code) lp own)
+quiet_at a b words code lp own slot t = by_slot (nat_eq 0 slot)
+  where
+    here : Win32State
+    here = state_at a b words (call.WaitAny []) (Ended code) lp own
+
+    by_thread : (d : Bool) → is_thread_ready here (host_at a b (call.WaitAny [])) (cond d (Some (record { number = 1; suspended = 0; posted = call.WaitAny [] })) None) ≡ false
+    by_thread true = refl
+    by_thread false = refl
+
+    by_slot : (c : Bool) → is_process_ready here t (cond c (Some (host_at a b (call.WaitAny []))) None) ≡ false
+    by_slot true = by_thread (nat_eq 1 t)
+    by_slot false = refl
+
+no_turns : (g : Around) (x : Shape) → Fits (code_of g) x → turns_left (code_of g) x ≡ 0 → IsQuiet (machine_of g x)
+no_turns g x f none = by_life x.life refl
+  where
+    main_ends : (s : Step) → MainAt (code_of g) s x.stage x.exit x.own → main_turns s (left_in (code_of g) x.own) ≡ 0 → ⊥
+    main_ends step.Rest m e = absurd m
+    main_ends step.Waiting m e = absurd m
+    main_ends step.Asking m e = absurd m
+    main_ends _ m e = omega (arith, e)
+
+    starter_ends : (s : Step) → StarterAt s x.came x.life → starter_turns s ≡ 0 → s ≡ step.Rest
+    starter_ends step.Start m e = absurd (omega (arith, e))
+    starter_ends step.Waiting m e = absurd (omega (arith, e))
+    starter_ends step.Asking m e = absurd (omega (arith, e))
+    starter_ends step.Rest m e = refl
+    starter_ends _ m e = absurd m
+
+    by_life : (life : Life) → x.life ≡ life → IsQuiet (machine_of g x)
+    by_life Alive is =
+        let still : turns_by Alive x.main (left_in (code_of g) x.own) + starter_turns x.starter ≡ 0 =
+        subst (λ l. turns_by l x.main (left_in (code_of g) x.own) + starter_turns x.starter ≡ 0) is none in
+        absurd (main_ends x.main f.main (omega (arith, still)))
+    by_life (Ended code) is =
+        let rests : x.starter ≡ step.Rest = starter_ends x.starter f.starter (omega (arith, none)) in
+        rw (is, rests) (quiet_at g.a g.b (words_at g.tail x.stage x.exit) code (posted_at x.main) x.own)
+
 -- the opening
 
 record OpeningTail : Type 0 where
@@ -392,7 +439,7 @@ unfolding opening_memory word_at
 opening_is_first code program form = record { sized = refl; program = refl; empty = refl; cyg = refl; ahead = form }
 
 opening_fits : (code : List Instr) (program : Program) → is_first_form_code code ≡ true → Fits code (opening_shape program)
-opening_fits code program form = record { first = opening_is_first code program form; small = tt; ended = λ status e. cc; main = refl; starter = refl }
+opening_fits code program form = record { first = opening_is_first code program form; small = tt; ended = λ status e. cc; main = (refl, refl); starter = refl }
 
 posix_opens : (program : Program) → posix_at (opening_shape program) ≡ opening_of program
 unfolding opening_memory new_image opening_record
@@ -433,10 +480,20 @@ settles g past w last x entries new next budget end k ends is =
     let quiet : IsQuiet new.machine = (subst (λ z. EndsBy budget (length entries) new.machine (Settle ∷ []) z) is ends).1 in
     settled_at g k.shape k.fits (subst IsQuiet k.stands.machine quiet)
 
--- the headline of a run of one program on one row
+-- a run that may have so many turns as are left comes to rest
+comes_to_rest : (g : Around) (past : List Seen) (w : World) (last : ℕ × ℕ) (x : Shape) (entries : List Entry) (new : World) (next : ℕ × ℕ) (budget : ℕ) (end : End)
+    → Ran g past w last x entries new next → turns_left (code_of g) x ≤ budget → EndsBy budget (length entries) new.machine (Settle ∷ []) end → end ≡ Quiet
+comes_to_rest g past w last x entries new next budget Quiet k enough ends = refl
+comes_to_rest g past w last x entries new next budget Given k enough ends = absurd (ends.1 ends.0.0)
+comes_to_rest g past w last x entries new next budget Budget k enough ends =
+    let none : turns_left (code_of g) k.shape ≡ 0 = omega (arith, k.count, enough, ends.0) in
+    let quiet : IsQuiet new.machine = subst IsQuiet (sym k.stands.machine) (no_turns g k.shape k.fits none) in
+    absurd (ends.1 (quiet, tt))
+
+-- the headline of a run of one program on one row, and where it ends
 pub headline_of : (setup : Setup) (entries : List Entry) (end : End) (budget : ℕ) (code : List Instr)
     → RunsToTheEnd setup entries end → IsOneProgram setup budget code → is_first_form_code code ≡ true → length code ≤ 4000
-    → (h : Headline setup entries end) × (end ≡ Quiet → IsSettled h.posix_last)
+    → (h : Headline setup entries end) × (end ≡ Quiet → IsSettled h.posix_last) × (enough_turns code ≤ budget → end ≡ Quiet)
 headline_of setup entries end budget code r one form few =
     let o : IsWorldOpening setup r.opening = r.opens in
     let is : first_code setup.programs ≡ code = code_is setup budget code one in
@@ -461,4 +518,6 @@ headline_of setup entries end budget code r one form few =
       run = subst (λ n. HeadlineRun (codes_of setup) n [] r.opening.machine (round_at (64, 2)) (opening_of o.program) entries r.last.machine (round_at r.at) (posix_at k.shape)) (sym one.rows)
           (subst (λ p. HeadlineRun (codes_of setup) 1 [] r.opening.machine (round_at (64, 2)) p entries r.last.machine (round_at r.at) (posix_at k.shape)) (posix_opens o.program)
           (subst (λ codes. HeadlineRun codes 1 [] r.opening.machine (round_at (64, 2)) (posix_at x) entries r.last.machine (round_at r.at) (posix_at k.shape)) (one_code setup.programs one.program.0 one.program.1) k.run));
-    }, settles g [] r.opening (64, 2) x entries r.last r.at setup.limits.budget end k r.ends)
+    }, settles g [] r.opening (64, 2) x entries r.last r.at setup.limits.budget end k r.ends, λ enough.
+    let all : turns_left (code_of g) x ≤ setup.limits.budget = omega (arith, enough, one.budget_kept, ap length is) in
+    comes_to_rest g [] r.opening (64, 2) x entries r.last r.at setup.limits.budget end k all r.ends)

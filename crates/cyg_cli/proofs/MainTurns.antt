@@ -17,7 +17,7 @@ use Rattle.w32_base.specs.declared.event.Event.TheVariants as event
 use Rattle.w32_base.specs.declared.entry.Directive.TheVariants.{Turn}
 use Rattle.w32_base.specs.declared.instr.Instr.{Instr}
 use Rattle.w32_base.specs.declared.instr.Instr.TheVariants as instr
-use Rattle.w32_base.specs.declared.instr.Operand.TheVariants.{Register, Number}
+use Rattle.w32_base.specs.declared.instr.Operand.TheVariants.{Number}
 use Rattle.w32_base.specs.declared.own.Own.{Own}
 use Rattle.w32_base.specs.declared.setup.Setup.{Setup}
 use Rattle.win32_spec.specs.Objects.{load_reply, exchanged}
@@ -40,7 +40,7 @@ use Rattle.cyg_cli.specs.ThreadPart.{call_of, Goes}
 use Rattle.cyg_cli.proofs.Bytes.{length-with_word, word_at-with_word, word_at-with_word_same}
 use Rattle.cyg_cli.proofs.Codes.{IsAhead, InstrAt, and_left, and_right, ahead_below, instr_ahead, ahead_on, call_ahead}
 use Rattle.cyg_cli.proofs.Seats.{AreObjects, state_at, layer_at, main_part, MainWent, main_loads, main_exchanges, main_leaves}
-use Rattle.cyg_cli.proofs.Shapes.{Stage, Runs, Died, Left, Shape, words_at, machine_at, posix_at, IsFirst, ExitsNext, MainAt, StarterAt, IsSmall, Fits}
+use Rattle.cyg_cli.proofs.Shapes.{Stage, Runs, Died, Left, Shape, words_at, machine_at, posix_at, IsFirst, ExitsNext, MainAt, StarterAt, IsSmall, Fits, main_turns, starter_turns, left_in, turns_left}
 use Rattle.cyg_cli.proofs.PosixSteps.{posix_of, same_number, get_pid_step, nobody_step, itself_step, death_step, collect_step}
 
 -- the words above the first row are 0
@@ -82,6 +82,7 @@ pub record Kept (x : Before) (s : Step) (stage : Stage) (called : Call) (answer 
       (λ e. PosixStep (code_in x ∷ []) (posix_of stage (image_of x.own) x.came) e (posix_at shape))
   pub evidence : HasEvidence x.past (state_before x s stage) (turn_entry 1 0 called answer told)
   pub lives : stage ≡ Runs → shape.life ≡ Alive
+  pub fewer : turns_left (code_in x) shape < main_turns s (left_in (code_in x) x.own) + starter_turns x.starter
 
 abbrev pub MainKeeps : Before → Step → Stage → Type 0
 MainKeeps x s stage = (called : Call) (answer : Reply) (event : Option Event) (next : ThreadPart) (new : Win32State)
@@ -95,6 +96,7 @@ record IsGood (x : Before) (s : Step) (stage after : Stage) (exit : ℕ) (d : Di
   event : MatchOption d.event (posix_of after (image_of d.own) x.came ≡ posix_of stage (image_of x.own) x.came)
       (λ e. PosixStep (code_in x ∷ []) (posix_of stage (image_of x.own) x.came) e (posix_of after (image_of d.own) x.came))
   evidence : (called : Call) (answer : Reply) → HasEvidence x.past (state_before x s stage) (turn_entry 1 0 called answer d.event)
+  fewer : main_turns d.step (left_in (code_in x) d.own) < main_turns s (left_in (code_in x) x.own)
 
 finish : (x : Before) (s : Step) (stage after : Stage) (exit : ℕ) (words : List ℕ) (d : Did) (called : Call) (answer : Reply) (event : Option Event) (next : ThreadPart) (new : Win32State)
     → IsGood x s stage after exit d → words ≡ words_at x.tail after exit → MainWent x.a x.b words (posted_at x.starter) d next event new
@@ -111,6 +113,7 @@ finish x s stage after exit words d called answer event next new g w went =
       event = g.event;
       evidence = g.evidence called answer;
       lives = λ _. refl;
+      fewer = omega (arith, g.fewer);
     })
 
 by_test : (x : Before) (s : Step) (stage after : Stage) (exit : ℕ) (b : Bool) (p q : Did) → (b ≡ true → IsGood x s stage after exit p) → (b ≡ false → IsGood x s stage after exit q)
@@ -119,8 +122,9 @@ by_test x s stage after exit true p q f g = f refl
 by_test x s stage after exit false p q f g = g refl
 
 -- nothing happens but that the step is another one
-moves : (x : Before) (s next : Step) (stage : Stage) (exit : ℕ) → IsSmall stage → MainAt (code_in x) next stage exit x.own → IsGood x s stage stage exit (goes_to next x.own)
-moves x s next stage exit small m = record { first = x.first; small = small; main = m; event = refl; evidence = λ called answer. tt }
+moves : (x : Before) (s next : Step) (stage : Stage) (exit : ℕ) → IsSmall stage → MainAt (code_in x) next stage exit x.own
+    → main_turns next (left_in (code_in x) x.own) < main_turns s (left_in (code_in x) x.own) → IsGood x s stage stage exit (goes_to next x.own)
+moves x s next stage exit small m fewer = record { first = x.first; small = small; main = m; event = refl; evidence = λ called answer. tt; fewer = fewer }
 
 -- a turn of process 2's own
 own_turn : (x : Before) (s : Step) → IsOwnTurn (state_before x s Runs) (Turn 1 0) 2
@@ -145,21 +149,32 @@ GoesPast x = (i : Instr) → upcoming (code_in x) (image_of x.own) ≡ CallInstr
 below_4000 : (x : Before) → place_of (image_of x.own) < 4000
 below_4000 x = omega (arith, ahead_below (code_in x) (place_of (image_of x.own)) x.first.ahead, x.short)
 
+abbrev answered_own : Before → ℤ → Own
+answered_own x z = with_image x.own (with_result (image_of x.own) z None)
+
+-- after a result, the next instruction is the following one
+place_follows : (x : Before) (z : ℤ) → place_of (image_of (answered_own x z)) ≡ suc (place_of (image_of x.own))
+place_follows x z =
+    let own : Own = x.own in
+    let place : ℕ = place_of (image_of own) in
+    let low : place < 4000 = below_4000 x in
+    let size : length own.dat ≡ 64 = x.first.sized in
+    let moved : length (moved_on (image_of own)).dat ≡ length own.dat = length-with_word own.dat 32 (place + 1) (omega arith) in
+    let now : place_of (image_of (answered_own x z)) ≡ place + 1 =
+    word_at-with_word (moved_on (image_of own)).dat 0 (cast_unsigned w32 z) 32 (omega arith) (omega arith)
+    ∙ word_at-with_word_same own.dat 32 (place + 1) (omega arith) (omega arith) in
+    omega (arith, now)
+
 -- the memory after a result
-first_answered : (x : Before) (z : ℤ) → GoesPast x → IsFirst (code_in x) (with_image x.own (with_result (image_of x.own) z None))
+first_answered : (x : Before) (z : ℤ) → GoesPast x → IsFirst (code_in x) (answered_own x z)
 first_answered x z past =
     let own : Own = x.own in
     let f : IsFirst (code_in x) own = x.first in
     let place : ℕ = place_of (image_of own) in
-    let low : place < 4000 = below_4000 x in
     let size : length own.dat ≡ 64 = f.sized in
     let moved : length (moved_on (image_of own)).dat ≡ length own.dat = length-with_word own.dat 32 (place + 1) (omega arith) in
     let coming : Called x = called_next x in
     let after : IsAhead (code_in x) (suc place) = ahead_on (code_in x) place coming.it coming.found (past coming.it coming.next) f.ahead in
-    let now : place_of (image_of (with_image own (with_result (image_of own) z None))) ≡ place + 1 =
-    word_at-with_word (moved_on (image_of own)).dat 0 (cast_unsigned w32 z) 32 (omega arith) (omega arith)
-    ∙ word_at-with_word_same own.dat 32 (place + 1) (omega arith) (omega arith) in
-    let follows : suc place ≡ place_of (image_of (with_image own (with_result (image_of own) z None))) = omega (arith, now) in
     record {
       sized = length-with_word (moved_on (image_of own)).dat 0 (cast_unsigned w32 z) (omega arith) ∙ moved ∙ size;
       program = word_at-with_word (moved_on (image_of own)).dat 0 (cast_unsigned w32 z) 40 (omega arith) (omega arith)
@@ -167,19 +182,40 @@ first_answered x z past =
       empty = word_at-with_word (moved_on (image_of own)).dat 0 (cast_unsigned w32 z) 36 (omega arith) (omega arith)
           ∙ word_at-with_word own.dat 32 (place + 1) 36 (omega arith) (omega arith) ∙ f.empty;
       cyg = f.cyg;
-      ahead = subst (λ n. IsAhead (code_in x) n) follows after;
+      ahead = subst (λ n. IsAhead (code_in x) n) (sym (place_follows x z)) after;
     }
 
 takes : (x : Before) → can_take x.own ≡ true
 takes x = rw (x.first.sized, lt-ltb (place_of (image_of x.own)) 4294967295 (omega (arith, below_4000 x))) refl
 
-answered : (x : Before) (s : Step) (z : ℤ) (e : Event) → GoesPast x
+-- there is one instruction less
+left_after : (x : Before) (z : ℤ) → left_in (code_in x) x.own ≡ suc (left_in (code_in x) (answered_own x z))
+left_after x z = omega (arith, place_follows x z, ahead_below (code_in x) (place_of (image_of x.own)) x.first.ahead)
+
+-- a step from which a result leads to fewer turns
+abbrev Costs : Step → Type 0
+Costs s = (n : ℕ) → main_turns step.Look n < main_turns s (suc n)
+
+answered : (x : Before) (s : Step) (z : ℤ) (e : Event) → x.exit ≡ 0 → Costs s → GoesPast x
     → PosixStep (code_in x ∷ []) (posix_of Runs (image_of x.own) x.came) e (posix_of Runs (with_result (image_of x.own) z None) x.came)
     → ((called : Call) (answer : Reply) → Shows x.past (state_before x s Runs) (turn_entry 1 0 called answer (Some e)) e)
     → IsGood x s Runs Runs x.exit (answers x.own z e)
-answered x s z e past goes shows = by_test x s Runs Runs x.exit (can_take x.own) _ (goes_to step.Rest x.own)
-    (λ _. record { first = first_answered x z past; small = tt; main = refl; event = goes; evidence = shows })
+answered x s z e none costs past goes shows = by_test x s Runs Runs x.exit (can_take x.own) _ (goes_to step.Rest x.own)
+    (λ _. record {
+      first = first_answered x z past;
+      small = tt;
+      main = (refl, none);
+      event = goes;
+      evidence = shows;
+      fewer = subst (λ n. main_turns step.Look (left_in (code_in x) (answered_own x z)) < main_turns s n) (sym (left_after x z)) (costs (left_in (code_in x) (answered_own x z)));
+    })
     (λ no. let never : true ≡ false = sym (takes x) ∙ no in cc)
+
+look_costs : Costs step.Look
+look_costs n = omega arith
+
+target_costs : (q : ℕ) → Costs (step.Target q)
+target_costs q n = omega arith
 
 abbrev KillsNext : Before → ℤ → ℤ → Type 0
 KillsNext x q n = is_kill (upcoming (code_in x) (image_of x.own)) (image_of x.own) q n ≡ true
@@ -191,23 +227,23 @@ kill_is_no_exit _ image q n e = let never : false ≡ true = e in cc
 kill_goes_past : (x : Before) (q n : ℤ) → KillsNext x q n → GoesPast x
 kill_goes_past x q n kills i e = kill_is_no_exit i (image_of x.own) q n (ap (λ u. is_kill u (image_of x.own) q n) (sym e) ∙ kills)
 
-kill_answered : (x : Before) (s : Step) (z q n : ℤ) (a : Answer) → KillsNext x q n
+kill_answered : (x : Before) (s : Step) (z q n : ℤ) (a : Answer) → x.exit ≡ 0 → Costs s → KillsNext x q n
     → PosixStep (code_in x ∷ []) (posix_of Runs (image_of x.own) x.came) (event.Kill 2 q n a) (posix_of Runs (with_result (image_of x.own) z None) x.came)
     → IsGood x s Runs Runs x.exit (answers x.own z (event.Kill 2 q n a))
-kill_answered x s z q n a kills goes =
-    answered x s z (event.Kill 2 q n a) (kill_goes_past x q n kills) goes (λ called answer. record { place = own_turn x s; death = tt; host = tt })
+kill_answered x s z q n a none costs kills goes =
+    answered x s z (event.Kill 2 q n a) none costs (kill_goes_past x q n kills) goes (λ called answer. record { place = own_turn x s; death = tt; host = tt })
 
-target_good : (x : Before) (n : ℕ) → KillsNext x (pos n) (pos 0) → n ≢ 0 → IsGood x step.Look Runs Runs x.exit (finds_target x.own n)
-target_good x n kills some = by_test x step.Look Runs Runs x.exit (nat_le 2 n && nat_le n 4001) (goes_to (step.Target n) x.own) (answers x.own (negsuc 2) (event.Kill 2 (pos n) (pos 0) (Error errno.ESRCH)))
+target_good : (x : Before) (n : ℕ) → x.exit ≡ 0 → KillsNext x (pos n) (pos 0) → n ≢ 0 → IsGood x step.Look Runs Runs x.exit (finds_target x.own n)
+target_good x n none kills some = by_test x step.Look Runs Runs x.exit (nat_le 2 n && nat_le n 4001) (goes_to (step.Target n) x.own) (answers x.own (negsuc 2) (event.Kill 2 (pos n) (pos 0) (Error errno.ESRCH)))
     (λ e. moves x step.Look (step.Target n) Runs x.exit tt
-    (refl, kills, leb-true 2 n (and_left (nat_le 2 n) (nat_le n 4001) e), leb-true n 4001 (and_right (nat_le 2 n) (nat_le n 4001) e)))
-    (λ e. kill_answered x step.Look (negsuc 2) (pos n) (pos 0) (Error errno.ESRCH) kills
+    (refl, none, kills, leb-true 2 n (and_left (nat_le 2 n) (nat_le n 4001) e), leb-true n 4001 (and_right (nat_le 2 n) (nat_le n 4001) e)) (omega arith))
+    (λ e. kill_answered x step.Look (negsuc 2) (pos n) (pos 0) (Error errno.ESRCH) none look_costs kills
     (nobody_step (code_in x) (image_of x.own) x.came n x.first.program kills some (λ two. let never : true ≡ false = rw (sym two) at e in cc)))
 
-kill_good : (x : Before) (n : ℕ) → KillsNext x (pos n) (pos 0) → 1 ≤ n → IsGood x step.Look Runs Runs x.exit (begins_kill x.own (pos n) (pos 0))
-kill_good x n kills low = by_test x step.Look Runs Runs x.exit (nat_eq n 0 || false) (goes_to step.Rest x.own) (finds_target x.own n)
+kill_good : (x : Before) (n : ℕ) → x.exit ≡ 0 → KillsNext x (pos n) (pos 0) → 1 ≤ n → IsGood x step.Look Runs Runs x.exit (begins_kill x.own (pos n) (pos 0))
+kill_good x n none kills low = by_test x step.Look Runs Runs x.exit (nat_eq n 0 || false) (goes_to step.Rest x.own) (finds_target x.own n)
     (λ e. no_target (nat_eq n 0) refl e)
-    (λ e. target_good x n kills (λ z. absurd (omega arith)))
+    (λ e. target_good x n none kills (λ z. absurd (omega arith)))
   where
     no_target : (c : Bool) → nat_eq n 0 ≡ c → (c || false) ≡ true → IsGood x step.Look Runs Runs x.exit (goes_to step.Rest x.own)
     no_target true is e = let never : n ≡ 0 = eqb-true n 0 is in absurd (omega arith)
@@ -219,13 +255,13 @@ the_call i j e = cc
 low_byte_small : (z : ℤ) → low_byte z < 256
 low_byte_small z = omega arith
 
-call_good : (x : Before) (i : Instr) → upcoming (code_in x) (image_of x.own) ≡ CallInstruction i → is_first_form_instr i ≡ true
+call_good : (x : Before) (i : Instr) → x.exit ≡ 0 → upcoming (code_in x) (image_of x.own) ≡ CallInstruction i → is_first_form_instr i ≡ true
     → IsGood x step.Look Runs Runs x.exit (goes_on x.own (CallInstruction i))
-call_good x instr.GetPid next form = answered x step.Look (pos 2) (event.Get 2 field.Pid (pos 2))
+call_good x instr.GetPid unwritten next form = answered x step.Look (pos 2) (event.Get 2 field.Pid (pos 2)) unwritten look_costs
     (λ i e. let is : i ≡ instr.GetPid = the_call i instr.GetPid (sym e ∙ next) in ap is_exit is)
     (get_pid_step (code_in x) (image_of x.own) x.came x.first.program next)
     (λ called answer. record { place = own_turn x step.Look; death = tt; host = tt })
-call_good x (instr.Kill (Number (pos n)) (Number (pos k))) next form =
+call_good x (instr.Kill (Number (pos n)) (Number (pos k))) unwritten next form =
     let in_range : (nat_le n 4001 && nat_eq k 0) ≡ true = and_right (nat_le 1 n) (nat_le n 4001 && nat_eq k 0) form in
     let none : k ≡ 0 = eqb-true k 0 (and_right (nat_le n 4001) (nat_eq k 0) in_range) in
     let low : 1 ≤ n = leb-true 1 n (and_left (nat_le 1 n) (nat_le n 4001 && nat_eq k 0) form) in
@@ -234,17 +270,18 @@ call_good x (instr.Kill (Number (pos n)) (Number (pos k))) next form =
     let there : upcoming (code_in x) image ≡ CallInstruction (instr.Kill (Number (pos n)) (Number (pos 0))) =
     subst (λ m. upcoming (code_in x) image ≡ CallInstruction (instr.Kill (Number (pos n)) (Number (pos m)))) none next in
     subst (λ m. IsGood x step.Look Runs Runs x.exit (goes_on x.own (CallInstruction (instr.Kill (Number (pos n)) (Number (pos m)))))) (sym none)
-    (kill_good x n (ap (λ u. is_kill u image (pos n) (pos 0)) there ∙ is) low)
-call_good x (instr.Exit v) next form =
+    (kill_good x n unwritten (ap (λ u. is_kill u image (pos n) (pos 0)) there ∙ is) low)
+call_good x (instr.Exit v) unwritten next form =
     let status : ℕ = low_byte (value_of (image_of x.own) v) in
     moves x step.Look (step.ExitWord status 0) Runs x.exit tt
-    (refl, record { next = ap (λ u. exit_status u (image_of x.own)) next; small = low_byte_small (value_of (image_of x.own) v) })
-call_good x _ next form = let never : false ≡ true = form in cc
+    (refl, unwritten, record { next = ap (λ u. exit_status u (image_of x.own)) next; small = low_byte_small (value_of (image_of x.own) v) })
+    (omega (arith, ahead_below (code_in x) (place_of (image_of x.own)) x.first.ahead))
+call_good x _ unwritten next form = let never : false ≡ true = form in cc
 
-next_good : (x : Before) → IsGood x step.Look Runs Runs x.exit (goes_on x.own (upcoming (code_in x) (image_of x.own)))
-next_good x =
+next_good : (x : Before) → x.exit ≡ 0 → IsGood x step.Look Runs Runs x.exit (goes_on x.own (upcoming (code_in x) (image_of x.own)))
+next_good x unwritten =
     let coming : Called x = called_next x in
-    subst (λ u. IsGood x step.Look Runs Runs x.exit (goes_on x.own u)) (sym coming.next) (call_good x coming.it coming.next coming.form)
+    subst (λ u. IsGood x step.Look Runs Runs x.exit (goes_on x.own u)) (sym coming.next) (call_good x coming.it unwritten coming.next coming.form)
 
 -- the words
 
@@ -298,13 +335,13 @@ exchange_went x s stage i old value l posted called answer event next new d =
 
 -- the turns, step by step
 
-start_keeps : (x : Before) → MainKeeps x step.Start Runs
-start_keeps x = after_load x step.Start Runs 0 (omega arith) refl (moves x step.Start step.Look Runs x.exit tt refl)
+start_keeps : (x : Before) → x.exit ≡ 0 → MainKeeps x step.Start Runs
+start_keeps x unwritten = after_load x step.Start Runs 0 (omega arith) refl (moves x step.Start step.Look Runs x.exit tt (refl, unwritten) (omega arith))
 
-look_keeps : (x : Before) → MainKeeps x step.Look Runs
-look_keeps x = after_load x step.Look Runs 1 (omega arith) refl
+look_keeps : (x : Before) → x.exit ≡ 0 → MainKeeps x step.Look Runs
+look_keeps x unwritten = after_load x step.Look Runs 1 (omega arith) refl
     (by_test x step.Look Runs Runs x.exit (nat_eq (length x.own.dat) 64) (goes_on x.own (upcoming (code_in x) (image_of x.own))) (goes_to step.Rest x.own)
-    (λ _. next_good x) (λ no. let never : true ≡ false = sym (eq-eqb 64 64 refl) ∙ ap (λ n. nat_eq n 64) (sym x.first.sized) ∙ no in cc))
+    (λ _. next_good x unwritten) (λ no. let never : true ≡ false = sym (eq-eqb 64 64 refl) ∙ ap (λ n. nat_eq n 64) (sym x.first.sized) ∙ no in cc))
 
 -- a word that was checked is that of a record exactly where the target is process 2
 word_of_target : (x : Before) (q : ℕ) → 2 ≤ q → is_record_word (get_or (words_at x.tail Runs x.exit) (main_index (q - 1)) 0) ≡ nat_eq 2 q
@@ -316,29 +353,29 @@ word_of_target x q low = by_equal (nat_eq 2 q) refl
     by_equal false e = let other : 2 ≢ q = eqb-false 2 q e in
         ap is_record_word (far_word x.tail Runs x.exit x.zeros (main_index (q - 1)) (omega arith)) ∙ sym e
 
-target_checked : (x : Before) (q : ℕ) (c : Bool) → nat_eq 2 q ≡ c → 2 ≤ q → KillsNext x (pos q) (pos 0)
+target_checked : (x : Before) (q : ℕ) (c : Bool) → x.exit ≡ 0 → nat_eq 2 q ≡ c → 2 ≤ q → KillsNext x (pos q) (pos 0)
     → IsGood x (step.Target q) Runs Runs x.exit
     (cond c (answers x.own (pos 0) (event.Kill 2 (pos q) (pos 0) Zero)) (answers x.own (negsuc 2) (event.Kill 2 (pos q) (pos 0) (Error errno.ESRCH))))
-target_checked x q true e low kills =
+target_checked x q true unwritten e low kills =
     let is : 2 ≡ q = eqb-true 2 q e in
     let step_is = itself_step (code_in x) (image_of x.own) x.came x.first.program (subst (λ n. KillsNext x (pos n) (pos 0)) (sym is) kills) in
-    kill_answered x (step.Target q) (pos 0) (pos q) (pos 0) Zero kills
+    kill_answered x (step.Target q) (pos 0) (pos q) (pos 0) Zero unwritten (target_costs q) kills
     (subst (λ n. PosixStep (code_in x ∷ []) (posix_of Runs (image_of x.own) x.came) (event.Kill 2 (pos n) (pos 0) Zero) (posix_of Runs (with_result (image_of x.own) (pos 0) None) x.came)) is step_is)
-target_checked x q false e low kills =
+target_checked x q false unwritten e low kills =
     let some : q ≢ 0 = λ z. absurd (omega arith) in
-    kill_answered x (step.Target q) (negsuc 2) (pos q) (pos 0) (Error errno.ESRCH) kills
+    kill_answered x (step.Target q) (negsuc 2) (pos q) (pos 0) (Error errno.ESRCH) unwritten (target_costs q) kills
     (nobody_step (code_in x) (image_of x.own) x.came q x.first.program kills some (eqb-false 2 q e))
 
-target_word : (x : Before) (q w : ℕ) → 2 ≤ q → KillsNext x (pos q) (pos 0) → is_record_word w ≡ nat_eq 2 q → IsGood x (step.Target q) Runs Runs x.exit (checked x.own q w)
-target_word x q w low kills e = rw e (target_checked x q (nat_eq 2 q) refl low kills)
+target_word : (x : Before) (q w : ℕ) → x.exit ≡ 0 → 2 ≤ q → KillsNext x (pos q) (pos 0) → is_record_word w ≡ nat_eq 2 q → IsGood x (step.Target q) Runs Runs x.exit (checked x.own q w)
+target_word x q w unwritten low kills e = rw e (target_checked x q (nat_eq 2 q) unwritten refl low kills)
 
 target_reply : (x : Before) (q w : ℕ) (c : Bool) → c ≡ true → IsGood x (step.Target q) Runs Runs x.exit (checked x.own q w)
     → IsGood x (step.Target q) Runs Runs x.exit (main_after (code_in x) (step.Target q) x.own (cond c (reply.Word w) reply.BadIndex))
 target_reply x q w true e good = good
 target_reply x q w false e good = cc
 
-target_keeps : (x : Before) (q : ℕ) → 2 ≤ q → q ≤ 4001 → KillsNext x (pos q) (pos 0) → MainKeeps x (step.Target q) Runs
-target_keeps x q low high kills called answer event next new d =
+target_keeps : (x : Before) (q : ℕ) → x.exit ≡ 0 → 2 ≤ q → q ≤ 4001 → KillsNext x (pos q) (pos 0) → MainKeeps x (step.Target q) Runs
+target_keeps x q unwritten low high kills called answer event next new d =
     let words : List ℕ = words_at x.tail Runs x.exit in
     let i : ℕ = main_index (q - 1) in
     let there : i < length words = omega (arith, x.long) in
@@ -346,25 +383,24 @@ target_keeps x q low high kills called answer event next new d =
     (main_loads x.a x.b x.objects words (posted_at x.starter) x.own i (step.Target q) x.setup called answer event next new d).1 in
     let good : IsGood x (step.Target q) Runs Runs x.exit (main_after (code_in x) (step.Target q) x.own (load_reply words i)) =
     target_reply x q (get_or words i 0) (nat_lt i (length words)) (lt-ltb i (length words) there)
-    (target_word x q (get_or words i 0) low kills (word_of_target x q low)) in
+    (target_word x q (get_or words i 0) unwritten low kills (word_of_target x q low)) in
     finish x (step.Target q) Runs Runs x.exit words (main_after (code_in x) (step.Target q) x.own (load_reply words i)) called answer event next new good refl went
 
-exit_keeps : (x : Before) (status old : ℕ) → ExitsNext (code_in x) x.own status → MainKeeps x (step.ExitWord status old) Runs
-exit_keeps x status old exits called answer event next new d =
-    by_found (nat_eq x.exit old) (exchange_went x (step.ExitWord status old) Runs 3 old (exit_word 2 status) (omega arith) refl called answer event next new d)
+exit_keeps : (x : Before) (status old : ℕ) → x.exit ≡ old → ExitsNext (code_in x) x.own status → MainKeeps x (step.ExitWord status old) Runs
+exit_keeps x status old is exits called answer event next new d =
+    by_found (nat_eq x.exit old) refl (exchange_went x (step.ExitWord status old) Runs 3 old (exit_word 2 status) (omega arith) refl called answer event next new d)
   where
-    by_found : (c : Bool)
+    by_found : (c : Bool) → nat_eq x.exit old ≡ c
         → MainWent x.a x.b (cond c (words_at x.tail Runs (exit_word 2 status)) (words_at x.tail Runs x.exit)) (posted_at x.starter)
         (cond c (goes_to (step.Sealing status) x.own) (goes_to (step.ExitWord status x.exit) x.own)) next event new
         → Kept x (step.ExitWord status old) Runs called answer event next new
-    by_found true went = finish x (step.ExitWord status old) Runs Runs (exit_word 2 status) _ (goes_to (step.Sealing status) x.own) called answer event next new
-        (moves x (step.ExitWord status old) (step.Sealing status) Runs (exit_word 2 status) tt (refl, exits, refl)) refl went
-    by_found false went = finish x (step.ExitWord status old) Runs Runs x.exit _ (goes_to (step.ExitWord status x.exit) x.own) called answer event next new
-        (moves x (step.ExitWord status old) (step.ExitWord status x.exit) Runs x.exit tt (refl, exits)) refl went
+    by_found true e went = finish x (step.ExitWord status old) Runs Runs (exit_word 2 status) _ (goes_to (step.Sealing status) x.own) called answer event next new
+        (moves x (step.ExitWord status old) (step.Sealing status) Runs (exit_word 2 status) tt (refl, exits, refl) (omega arith)) refl went
+    by_found false e went = absurd (eqb-false x.exit old e is)
 
 sealing_keeps : (x : Before) (status : ℕ) → ExitsNext (code_in x) x.own status → x.exit ≡ exit_word 2 status → MainKeeps x (step.Sealing status) Runs
 sealing_keeps x status exits wrote = after_load x (step.Sealing status) Runs 1 (omega arith) refl
-    (moves x (step.Sealing status) (step.Seal status first_main_word) Runs x.exit tt (refl, exits, wrote, refl))
+    (moves x (step.Sealing status) (step.Seal status first_main_word) Runs x.exit tt (refl, exits, wrote, refl) (omega arith))
 
 -- the exit word tells the death
 tells_exit : (x : Before) (s : Step) (status : ℕ) → status < 256 → x.exit ≡ exit_word 2 status → TellsExit (state_before x s Runs) 2 (pos status)
@@ -382,12 +418,13 @@ seal_keeps x status exits wrote called answer told next new d =
       main = (refl, refl);
       event = death_step (code_in x) (image_of x.own) x.came status x.first.program exits.next;
       evidence = λ called answer. record { place = record { slot = 1; thread = 0; turn = refl }; death = tells_exit x s status exits.small wrote; host = tt };
+      fewer = omega arith;
     })
     refl (exchange_went x s Runs 1 first_main_word sealed (omega arith) refl called answer told next new d)
 
 parent_keeps : (x : Before) (status : ℕ) → status < 256 → MainKeeps x (step.Parent status (sealed_word first_main_word status)) (Died status)
 parent_keeps x status small = after_load x (step.Parent status (sealed_word first_main_word status)) (Died status) 2 (omega arith) refl
-    (moves x (step.Parent status (sealed_word first_main_word status)) (step.Gather status (sealed_word first_main_word status)) (Died status) x.exit small (refl, refl))
+    (moves x (step.Parent status (sealed_word first_main_word status)) (step.Gather status (sealed_word first_main_word status)) (Died status) x.exit small (refl, refl) (omega arith))
 
 gather_keeps : (x : Before) (status : ℕ) → status < 256 → MainKeeps x (step.Gather status (sealed_word first_main_word status)) (Died status)
 gather_keeps x status small called answer told next new d =
@@ -403,6 +440,7 @@ gather_keeps x status small called answer told next new d =
       main = refl;
       event = collect_step (code_in x ∷ []) (image_of x.own) x.came status;
       evidence = λ called answer. record { place = record { slot = 1; thread = 0; turn = refl }; death = tt; host = tt };
+      fewer = omega arith;
     })
     refl went
 
@@ -428,13 +466,14 @@ leave_keeps x status small called answer event next new d =
       event = refl;
       evidence = tt;
       lives = λ e. let never : Left status ≡ Runs = e in cc;
+      fewer = omega arith;
     })
 
 pub main_keeps : (x : Before) (s : Step) (stage : Stage) → IsSmall stage → MainAt (code_in x) s stage x.exit x.own → MainKeeps x s stage
-main_keeps x step.Start stage small m = subst (λ g. MainKeeps x step.Start g) (sym m) (start_keeps x)
-main_keeps x step.Look stage small m = subst (λ g. MainKeeps x step.Look g) (sym m) (look_keeps x)
-main_keeps x (step.Target q) stage small m = subst (λ g. MainKeeps x (step.Target q) g) (sym m.0) (target_keeps x q m.2 m.3 m.1)
-main_keeps x (step.ExitWord status old) stage small m = subst (λ g. MainKeeps x (step.ExitWord status old) g) (sym m.0) (exit_keeps x status old m.1)
+main_keeps x step.Start stage small m = subst (λ g. MainKeeps x step.Start g) (sym m.0) (start_keeps x m.1)
+main_keeps x step.Look stage small m = subst (λ g. MainKeeps x step.Look g) (sym m.0) (look_keeps x m.1)
+main_keeps x (step.Target q) stage small m = subst (λ g. MainKeeps x (step.Target q) g) (sym m.0) (target_keeps x q m.1 m.3 m.4 m.2)
+main_keeps x (step.ExitWord status old) stage small m = subst (λ g. MainKeeps x (step.ExitWord status old) g) (sym m.0) (exit_keeps x status old m.1 m.2)
 main_keeps x (step.Sealing status) stage small m = subst (λ g. MainKeeps x (step.Sealing status) g) (sym m.0) (sealing_keeps x status m.1 m.2)
 main_keeps x (step.Seal status main) stage small m =
     subst (λ g. MainKeeps x (step.Seal status main) g) (sym m.0) (subst (λ w. MainKeeps x (step.Seal status w) Runs) (sym m.3) (seal_keeps x status m.1 m.2))

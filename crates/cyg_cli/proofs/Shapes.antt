@@ -1,5 +1,5 @@
 -- The states of both machines in a run of the first path, by a few parts.
-use Rattle.std.proofs.Common.{◌≡◌, ℕ, ◌+◌, ◌<◌, ◌≤◌, Bool, true, false, cond, nat_eq, List, [], ◌∷◌, drop, replicate, length, Option, Some, None, refl, sym, ◌∙◌, ap, subst, arith}
+use Rattle.std.proofs.Common.{◌≡◌, ℕ, ◌+◌, ◌-◌, ◌*◌, ◌<◌, ◌≤◌, Bool, true, false, cond, nat_eq, List, [], ◌∷◌, drop, replicate, length, Option, Some, None, refl, sym, ◌∙◌, ap, subst, arith}
 use Rattle.std.specs.Prelude.{IsSome, is_some, pos}
 use Rattle.std.proofs.lemmas.Bool.{eqb-true}
 use Rattle.w32_base.specs.declared.call.Call.{Call}
@@ -114,10 +114,10 @@ pub record ExitsNext (code : List Instr) (own : Own) (status : ℕ) : Type 0 whe
 
 -- what holds where the main thread is at a step
 abbrev pub MainAt : List Instr → Step → Stage → ℕ → Own → Type 0
-MainAt code step.Start stage exit own = stage ≡ Runs
-MainAt code step.Look stage exit own = stage ≡ Runs
-MainAt code (step.Target q) stage exit own = (stage ≡ Runs) × (is_kill (upcoming code (image_of own)) (image_of own) (pos q) (pos 0) ≡ true) × (2 ≤ q) × (q ≤ 4001)
-MainAt code (step.ExitWord status old) stage exit own = (stage ≡ Runs) × ExitsNext code own status
+MainAt code step.Start stage exit own = (stage ≡ Runs) × (exit ≡ 0)
+MainAt code step.Look stage exit own = (stage ≡ Runs) × (exit ≡ 0)
+MainAt code (step.Target q) stage exit own = (stage ≡ Runs) × (exit ≡ 0) × (is_kill (upcoming code (image_of own)) (image_of own) (pos q) (pos 0) ≡ true) × (2 ≤ q) × (q ≤ 4001)
+MainAt code (step.ExitWord status old) stage exit own = (stage ≡ Runs) × (exit ≡ old) × ExitsNext code own status
 MainAt code (step.Sealing status) stage exit own = (stage ≡ Runs) × ExitsNext code own status × (exit ≡ exit_word 2 status)
 MainAt code (step.Seal status main) stage exit own = (stage ≡ Runs) × ExitsNext code own status × (exit ≡ exit_word 2 status) × (main ≡ first_main_word)
 MainAt code (step.Parent status main) stage exit own = (stage ≡ Died status) × (main ≡ sealed_word first_main_word status)
@@ -137,6 +137,36 @@ abbrev pub IsSmall : Stage → Type 0
 IsSmall Runs = Unit {0}
 IsSmall (Died status) = status < 256
 IsSmall (Left status) = status < 256
+
+-- how many turns a thread has left: of the main thread at most, with n instructions from the next one on
+abbrev pub main_turns : Step → ℕ → ℕ
+main_turns step.Start n = 2 * n + 6
+main_turns step.Look n = 2 * n + 5
+main_turns (step.Target q) n = 2 * n + 4
+main_turns (step.ExitWord status old) n = 6
+main_turns (step.Sealing status) n = 5
+main_turns (step.Seal status main) n = 4
+main_turns (step.Parent status main) n = 3
+main_turns (step.Gather status main) n = 2
+main_turns (step.Leave status) n = 1
+main_turns _ n = 0
+
+abbrev pub starter_turns : Step → ℕ
+starter_turns step.Start = 3
+starter_turns step.Waiting = 2
+starter_turns step.Asking = 1
+starter_turns _ = 0
+
+abbrev pub turns_by : Life → Step → ℕ → ℕ
+turns_by Alive s n = main_turns s n
+turns_by (Ended code) s n = 0
+
+-- how many instructions there are from the next one on
+abbrev pub left_in : List Instr → Own → ℕ
+left_in code own = length code - place_of (image_of own)
+
+abbrev pub turns_left : List Instr → Shape → ℕ
+turns_left code x = turns_by x.life x.main (left_in code x.own) + starter_turns x.starter
 
 pub record Fits (code : List Instr) (x : Shape) : Type 0 where
   pub first : IsFirst code x.own

@@ -24,7 +24,7 @@ use Rattle.cyg_cli.specs.Entries.{turn_entry}
 use Rattle.cyg_cli.specs.Layer.{posted_at, starter_after}
 use Rattle.cyg_cli.specs.ThreadPart.{call_of, Goes}
 use Rattle.cyg_cli.proofs.Seats.{AreObjects, Carried, state_at, starter_part, StarterWent, starter_carried, starter_stays, starter_rests, host_load, host_waits, host_asks, host_process}
-use Rattle.cyg_cli.proofs.Shapes.{Stage, Left, words_at, StarterAt, IsSmall}
+use Rattle.cyg_cli.proofs.Shapes.{Stage, Left, words_at, StarterAt, IsSmall, starter_turns}
 use Rattle.cyg_cli.proofs.PosixSteps.{posix_of, host_step}
 use Rattle.cyg_cli.proofs.MainTurns.{load_is}
 
@@ -54,6 +54,7 @@ pub record StarterKept (x : StarterBefore) (s : Step) (stage : Stage) (life : Li
   pub event : MatchOption told (posix_of stage (image_of x.own) now ≡ posix_of stage (image_of x.own) came)
       (λ e. PosixStep x.codes (posix_of stage (image_of x.own) came) e (posix_of stage (image_of x.own) now))
   pub evidence : HasEvidence x.past (state_around x s stage life) (turn_entry 0 1 called answer told)
+  pub fewer : starter_turns starter < starter_turns s
 
 abbrev pub StarterKeeps : StarterBefore → Step → Stage → Life → Bool → Type 0
 StarterKeeps x s stage life came = (called : Call) (answer : Reply) (told : Option Event) (next : ThreadPart) (new : Win32State)
@@ -62,12 +63,12 @@ StarterKeeps x s stage life came = (called : Call) (answer : Reply) (told : Opti
 
 -- the starter goes on to another step without an event
 goes_on : (x : StarterBefore) (s after : Step) (stage : Stage) (life : Life) (came : Bool) (called : Call) (answer : Reply) (told : Option Event) (next : ThreadPart) (new : Win32State)
-    → StarterAt after came life
+    → starter_turns after < starter_turns s → StarterAt after came life
     → StarterWent x.a x.b (words_at x.tail stage x.exit) life (posted_at x.main) x.own (record { step = after; own = no_memory; event = None }) next told new
     → StarterKept x s stage life came called answer told next new
-goes_on x s after stage life came called answer told next new holds went =
+goes_on x s after stage life came called answer told next new fewer holds went =
     let P : Option Event → Type 0 = λ o. StarterKept x s stage life came called answer o next new in
-    subst P (sym went.told) (record { starter = after; now = came; holds = holds; machine = went.after; part = went.part; event = refl; evidence = tt })
+    subst P (sym went.told) (record { starter = after; now = came; holds = holds; machine = went.after; part = went.part; event = refl; evidence = tt; fewer = fewer })
 
 begin_keeps : (x : StarterBefore) (stage : Stage) (life : Life) (came : Bool) → came ≡ false → StarterKeeps x step.Start stage life came
 begin_keeps x stage life came not_yet called answer told next new d =
@@ -75,7 +76,7 @@ begin_keeps x stage life came not_yet called answer told next new d =
     let c : Carried (state_around x step.Start stage life) 1 1 (call.Load 1 0) (starter_part step.Start) x.setup called answer told next new =
     starter_carried x.a x.b words (call.Load 1 0) life (posted_at x.main) x.own (starter_part step.Start) x.setup called answer told next new d in
     let k = host_load x.a x.b x.objects words (call.Load 1 0) life (posted_at x.main) x.own 0 answer c.mid c.step in
-    goes_on x step.Start step.Waiting stage life came called answer told next new not_yet
+    goes_on x step.Start step.Waiting stage life came called answer told next new (omega arith) not_yet
     (starter_stays x.a x.b words (call.Load 1 0) life (posted_at x.main) x.own step.Start x.setup called answer (reply.Word 1) told next new c
     (k.0 ∙ load_is x.tail stage x.exit 0 (omega arith)) k.1)
 
@@ -87,7 +88,7 @@ wait_keeps x stage life came not_yet called answer told next new d =
     starter_carried x.a x.b words hp life (posted_at x.main) x.own (starter_part step.Waiting) x.setup called answer told next new d in
     let k = host_waits x.a x.b x.objects words hp life (posted_at x.main) x.own answer c.mid c.step in
     let stays : c.mid ≡ state_around x step.Waiting stage life = k.3 ∙ ap (λ l. state_at x.a x.b words hp l (posted_at x.main) x.own) (sym k.1) in
-    goes_on x step.Waiting step.Asking stage life came called answer told next new (not_yet, (k.0, k.1))
+    goes_on x step.Waiting step.Asking stage life came called answer told next new (omega arith) (not_yet, (k.0, k.1))
     (starter_stays x.a x.b words hp life (posted_at x.main) x.own step.Waiting x.setup called answer (reply.Woke 0) told next new c k.2 stays)
 
 never_ended : (past : List Seen) → was_ended past 2 ≡ false → was_ended past 2 ≡ true → ⊥
@@ -111,6 +112,7 @@ ask_keeps x code small called answer told next new d =
       machine = went.after;
       part = went.part;
       event = host_step x.codes (image_of x.own) code;
+      fewer = omega arith;
       evidence = record {
         place = refl;
         death = tt;

@@ -1,5 +1,5 @@
 -- How the top call ends.
-use Rattle.std.specs.Prelude.{◌≡◌, ◌≢◌, ℕ, ◌⊎◌, true, List, [], ◌∷◌, ◌++◌, Option, IfSome, codes}
+use Rattle.std.specs.Prelude.{◌≡◌, ◌≢◌, ℕ, ◌+◌, ◌*◌, ◌≤◌, ◌⊎◌, true, List, [], ◌∷◌, ◌++◌, length, Option, IfSome, codes}
 use Rattle.std.specs.Io.KnownBytes.{Appends}
 use Rattle.w32_base.specs.declared.entry.Entry.{Entry}
 use Rattle.w32_base.specs.declared.entry.End.{End}
@@ -56,8 +56,13 @@ pub record IsSettled (p : PosixState) : Type 0 where
   pub gone : p.records ≡ []
   pub read : p.host_came ≡ true
 
+-- so many turns bring each script of the first form with this program to its end
+abbrev pub enough_turns : List Instr → ℕ
+enough_turns code = 2 * length code + 9
+
 -- The text was read to its end and is a script of the first form, whose program was run: the journal follows the
--- schedule, its events and states have the headline, and a run that ends quiet leaves no process.
+-- schedule, and its events and states have the headline. A run that ends quiet leaves no process, and a run whose budget
+-- is enough ends quiet.
 pub record Runs (before after : Outside) (entries : List Entry) (end : End) : Type 0 where
   pub budget : ℕ
   pub code : List Instr
@@ -68,6 +73,7 @@ pub record Runs (before after : Outside) (entries : List Entry) (end : End) : Ty
   pub run : IsRunOf setup entries end
   pub headline : Headline setup entries end
   pub settled : end ≡ Quiet → IsSettled headline.posix_last
+  pub ends_quiet : enough_turns code ≤ budget → end ≡ Quiet
 
 -- The ways in which the top call ends, with its status and its journal.
 pub data Ends (words : List (List ℕ)) (before after : Outside) (status : ℕ) (entries : List Entry) : Type 0 where
@@ -89,7 +95,7 @@ pub data Ends (words : List (List ℕ)) (before after : Outside) (status : ℕ) 
       → Rose before.write_faults after.write_faults → status ≡ 5 → Ends words before after status entries
 
 -- Where the source told its bytes, they were a script, and this is the journal of a run of what it sets up. A run that ends
--- quiet leaves no process.
+-- quiet leaves no process, and a run whose budget is enough ends quiet.
 pub record IsJournalOf (left : Option (List ℕ)) (entries : List Entry) : Type 0 where
   pub budget : ℕ
   pub code : List Instr
@@ -99,6 +105,7 @@ pub record IsJournalOf (left : Option (List ℕ)) (entries : List Entry) : Type 
   pub end : End
   pub headline : Headline setup entries end
   pub settled : end ≡ Quiet → IsSettled headline.posix_last
+  pub ends_quiet : enough_turns code ≤ budget → end ≡ Quiet
 
 -- if the text is a script, it was run to its end or to its budget, or memory ran out
 abbrev pub IsRunOrShort : ℕ → List ℕ → Type 0

@@ -49,7 +49,23 @@ mod tests {
     }
 
     #[test]
-    fn section_is_read_and_a_call_is_posted(rt: HostRuntime) -> Result<(), Fail> {
+    fn section_is_read(rt: HostRuntime) -> Result<(), Fail> {
+        let program = Program {
+            name: Name::try_new(b"main").ok_or("name")?,
+            heap: 0,
+            stack: 64,
+            code: Code::from_vec(vec![in rt.alloc(); Instr::Exit(Operand::Number(0))]?),
+        };
+        let machine = Machine::open(rt.alloc(), &program)?;
+        assert_eq!(rt; machine.word(0).ok(), Some(1));
+        assert_eq!(rt; machine.word(1).ok(), Some((2 << 50) + (2 << 31)));
+        assert_eq!(rt; machine.word(12_000).ok(), Some(0));
+        assert!(rt; machine.word(12_001).is_err());
+        Ok(())
+    }
+
+    #[test]
+    fn a_call_is_posted(rt: HostRuntime) -> Result<(), Fail> {
         let program = Program {
             name: Name::try_new(b"main").ok_or("name")?,
             heap: 0,
@@ -57,10 +73,6 @@ mod tests {
             code: Code::from_vec(vec![in rt.alloc(); Instr::Exit(Operand::Number(0))]?),
         };
         let mut machine = Machine::open(rt.alloc(), &program)?;
-        assert_eq!(rt; machine.word(0).ok(), Some(1));
-        assert_eq!(rt; machine.word(1).ok(), Some((2 << 50) + (2 << 31)));
-        assert_eq!(rt; machine.word(12_000).ok(), Some(0));
-        assert!(rt; machine.word(12_001).is_err());
         machine.post(Slot::new(1), ThreadNo::new(0), Call::ExitSelf(7));
         assert_eq!(rt;
             machine.turn(Slot::new(1), ThreadNo::new(0)),
