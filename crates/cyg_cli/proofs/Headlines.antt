@@ -504,20 +504,23 @@ headline_of setup entries end budget code r one form few =
     let stands : Stands g x r.opening = opening_stands setup r.opening o short in
     let k : Ran g [] r.opening (64, 2) x entries r.last r.at = run_is g [] refl x fits r.opening stands (64, 2) entries r.last r.at r.run in
     let shown : Decodes 1 r.opening.machine (posix_at x) =
-    subst (λ s. Decodes 1 s (posix_at x)) (sym stands.machine) (decodes_at (first_code setup.programs) g.a g.b g.tail x fits) in
-    (record {
-      program = o.program;
-      first = o.first;
-      opening = r.opening.machine;
-      opens = o.machine;
-      shown = subst (λ n. Decodes n r.opening.machine (opening_of o.program)) (sym one.rows) (subst (λ p. Decodes 1 r.opening.machine p) (posix_opens o.program) shown);
-      last = r.last.machine;
-      at = round_at r.at;
-      posix_last = posix_at k.shape;
-      within = r.ends;
-      run = subst (λ n. HeadlineRun (codes_of setup) n [] r.opening.machine (round_at (64, 2)) (opening_of o.program) entries r.last.machine (round_at r.at) (posix_at k.shape)) (sym one.rows)
-          (subst (λ p. HeadlineRun (codes_of setup) 1 [] r.opening.machine (round_at (64, 2)) p entries r.last.machine (round_at r.at) (posix_at k.shape)) (posix_opens o.program)
-          (subst (λ codes. HeadlineRun codes 1 [] r.opening.machine (round_at (64, 2)) (posix_at x) entries r.last.machine (round_at r.at) (posix_at k.shape)) (one_code setup.programs one.program.0 one.program.1) k.run));
-    }, settles g [] r.opening (64, 2) x entries r.last r.at setup.limits.budget end k r.ends, λ enough.
-    let all : turns_left (code_of g) x ≤ setup.limits.budget = omega (arith, enough, one.budget_kept, ap length is) in
-    comes_to_rest g [] r.opening (64, 2) x entries r.last r.at setup.limits.budget end k all r.ends)
+    subst (λ s. Decodes 1 s (posix_at x)) (sym stands.machine) (decodes_at (first_code setup.programs) g.a g.b g.tail x fits) in (
+      record {
+        program = o.program;
+        first = o.first;
+        opening = r.opening.machine;
+        opens = o.machine;
+        shown = subst (λ n. Decodes n r.opening.machine (opening_of o.program)) (sym one.rows) (subst (λ p. Decodes 1 r.opening.machine p) (posix_opens o.program) shown);
+        last = r.last.machine;
+        at = round_at r.at;
+        posix_last = posix_at k.shape;
+        within = r.ends;
+        run = subst (λ n. HeadlineRun (codes_of setup) n [] r.opening.machine (round_at (64, 2)) (opening_of o.program) entries r.last.machine (round_at r.at) (posix_at k.shape)) (sym one.rows)
+            (subst (λ p. HeadlineRun (codes_of setup) 1 [] r.opening.machine (round_at (64, 2)) p entries r.last.machine (round_at r.at) (posix_at k.shape)) (posix_opens o.program)
+            (subst (λ codes. HeadlineRun codes 1 [] r.opening.machine (round_at (64, 2)) (posix_at x) entries r.last.machine (round_at r.at) (posix_at k.shape)) (one_code setup.programs one.program.0 one.program.1) k.run));
+      },
+      settles g [] r.opening (64, 2) x entries r.last r.at setup.limits.budget end k r.ends,
+      λ enough.
+          let all : turns_left (code_of g) x ≤ setup.limits.budget = omega (arith, enough, one.budget_kept, ap length is) in
+          comes_to_rest g [] r.opening (64, 2) x entries r.last r.at setup.limits.budget end k all r.ends,
+    )
