@@ -1,5 +1,5 @@
 -- The ways in which the top call ends, by what its parts did.
-use Rattle.std.proofs.Common.{◌≡◌, ◌≤◌, ℕ, List, Option, Some, None, inl, inr, subst, arith}
+use Rattle.std.proofs.Common.{◌≡◌, ◌≤◌, ℕ, List, Option, Some, None, inl, inr, sym, ◌∙◌, subst, arith}
 use Rattle.std.specs.Prelude.{IfSome}
 use Rattle.w32_base.specs.declared.entry.Entry.{Entry}
 use Rattle.w32_base.specs.declared.entry.End.TheVariants.{Quiet}
@@ -10,10 +10,10 @@ use Rattle.cyg_io.specs.Source.{Draws}
 use Rattle.first_form.specs.OneProgram.{IsOneProgram}
 use Rattle.layer_spec.specs.FirstForm.{IsFirstForm}
 use Rattle.layer_spec.specs.Headline.{Headline}
-use Rattle.cyg_cli.specs.Top.{Outside, run_calls, Ends, Refused, RefusedInPart, Logged, LoggedInPart, NoMemory, Refuses, Runs, IsSettled, enough_turns, IsUnbuilt}
+use Rattle.cyg_cli.specs.Top.{Outside, run_calls, Ends, Refused, RefusedInPart, Logged, LoggedInPart, NoMemory, Refuses, Runs, IsSettled, enough_turns, IsScriptOf, IsUnbuilt}
 use Rattle.cyg_cli.specs.TopParts.{IsRefusal, IsLogOf, IsLogging}
 use Rattle.cyg_cli.proofs.Texts.{first_form_short}
-use Rattle.cyg_cli.proofs.Headlines.{headline_of}
+use Rattle.cyg_cli.proofs.Headlines.{code_is, headline_of}
 
 pub of_left : (P : List ℕ → Type 0) (o : Option (List ℕ)) (bytes : List ℕ) → IfSome o (λ left. bytes ≡ left) → P bytes → IfSome o P
 of_left P None bytes e p = tt
@@ -29,11 +29,17 @@ pub refusal_ends : (words : List (List ℕ)) (before after : Outside) (status : 
 refusal_ends words before after status entries w r (inl (s, app, e)) = Refused w r app s e
 refusal_ends words before after status entries w r (inr (s, app, rose, e)) = RefusedInPart w r app rose s e
 
+-- what is set up tells the budget and the program
+same_program : (setup : Setup) (b budget : ℕ) (c code : List Instr) → IsOneProgram setup b c → IsOneProgram setup budget code → (b ≡ budget) × (c ≡ code)
+same_program setup b budget c code other one =
+    (sym other.budget_kept ∙ one.budget_kept, sym (code_is setup b c other) ∙ code_is setup budget code one)
+
 pub logging_ends : (words : List (List ℕ)) (before after : Outside) (status : ℕ) (entries : List Entry) (setup : Setup) (text : List ℕ) (budget : ℕ) (code : List Instr)
     → words ≡ run_calls → RoseBy 1 before.ends after.ends → IfSome before.left (λ left. text ≡ left) → IsFirstForm text budget code → IsOneProgram setup budget code
+    → ((b : ℕ) (c : List Instr) → IsFirstForm text b c → IsOneProgram setup b c)
     → IsLogging setup before.held after.held before.write_faults after.write_faults status entries → Ends words before after status entries
-logging_ends words before after status entries setup text budget code w ended told form script (inr (s, same, e)) = NoMemory w same s e
-logging_ends words before after status entries setup text budget code w ended told form script (inl (end, run, parts, log)) = by_log log
+logging_ends words before after status entries setup text budget code w ended told form script others (inr (s, same, e)) = NoMemory w same s e
+logging_ends words before after status entries setup text budget code w ended told form script others (inl (end, run, parts, log)) = by_log log
   where
     has : (h : Headline setup entries end) × (end ≡ Quiet → IsSettled h.posix_last) × (enough_turns code ≤ budget → end ≡ Quiet)
     has = headline_of setup entries end budget code parts script form.instructions form.code_in_range
@@ -44,7 +50,7 @@ logging_ends words before after status entries setup text budget code w ended to
       code = code;
       setup = setup;
       ended = ended;
-      text = of_left (λ x. IsFirstForm x budget code) before.left text told form;
+      text = of_left (IsScriptOf budget code) before.left text told (record { form = form; only = λ b c h. same_program setup b budget c code (others b c h) script });
       script = script;
       run = run;
       headline = has.0;

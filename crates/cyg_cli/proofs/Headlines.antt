@@ -470,7 +470,7 @@ opening_stands setup w o short = record {
 one_code : (programs : List Program) (program : Program) → programs ≡ program ∷ [] → first_code programs ∷ [] ≡ map (λ (p : Program). p.code) programs
 one_code programs program e = subst (λ ps. first_code ps ∷ [] ≡ map (λ (p : Program). p.code) ps) (sym e) refl
 
-code_is : (setup : Setup) (budget : ℕ) (code : List Instr) → IsOneProgram setup budget code → first_code setup.programs ≡ code
+pub code_is : (setup : Setup) (budget : ℕ) (code : List Instr) → IsOneProgram setup budget code → first_code setup.programs ≡ code
 code_is setup budget code one = ap first_code one.program.1 ∙ one.program.2.instructions
 
 -- the last state of a run that has come to rest

@@ -1,5 +1,5 @@
 -- How the top call ends.
-use Rattle.std.specs.Prelude.{◌≡◌, ◌≢◌, ℕ, ◌+◌, ◌*◌, ◌≤◌, ◌⊎◌, true, List, [], ◌∷◌, ◌++◌, length, Option, IfSome, codes}
+use Rattle.std.specs.Prelude.{◌≡◌, ◌≢◌, ℕ, ◌+◌, ◌*◌, ◌<◌, ◌≤◌, ◌⊎◌, true, List, [], ◌∷◌, ◌++◌, length, Option, IfSome, codes}
 use Rattle.std.specs.Io.KnownBytes.{Appends}
 use Rattle.w32_base.specs.declared.entry.Entry.{Entry}
 use Rattle.w32_base.specs.declared.entry.End.{End}
@@ -60,6 +60,11 @@ pub record IsSettled (p : PosixState) : Type 0 where
 abbrev pub enough_turns : List Instr → ℕ
 enough_turns code = 2 * length code + 9
 
+-- the text is a script of the first form with this budget and this program, and with no others
+pub record IsScriptOf (budget : ℕ) (code : List Instr) (text : List ℕ) : Type 0 where
+  pub form : IsFirstForm text budget code
+  pub only : (other_budget : ℕ) (other_code : List Instr) → IsFirstForm text other_budget other_code → (other_budget ≡ budget) × (other_code ≡ code)
+
 -- The text was read to its end and is a script of the first form, whose program was run: the journal follows the
 -- schedule, and its events and states have the headline. A run that ends quiet leaves no process, and a run whose budget
 -- is enough ends quiet.
@@ -68,7 +73,7 @@ pub record Runs (before after : Outside) (entries : List Entry) (end : End) : Ty
   pub code : List Instr
   pub setup : Setup
   pub ended : RoseBy 1 before.ends after.ends
-  pub text : IfSome before.left (λ text. IsFirstForm text budget code)
+  pub text : IfSome before.left (IsScriptOf budget code)
   pub script : IsOneProgram setup budget code
   pub run : IsRunOf setup entries end
   pub headline : Headline setup entries end
@@ -100,13 +105,14 @@ pub record IsJournalOf (left : Option (List ℕ)) (entries : List Entry) : Type 
   pub budget : ℕ
   pub code : List Instr
   pub setup : Setup
-  pub text : IfSome left (λ text. IsFirstForm text budget code)
+  pub text : IfSome left (IsScriptOf budget code)
   pub script : IsOneProgram setup budget code
   pub end : End
   pub headline : Headline setup entries end
   pub settled : end ≡ Quiet → IsSettled headline.posix_last
   pub ends_quiet : enough_turns code ≤ budget → end ≡ Quiet
 
--- if the text is a script, it was run to its end or to its budget, or memory ran out
+-- If the text is a script, it was run to its end; or to its budget, which isn't enough; or memory ran out.
 abbrev pub IsRunOrShort : ℕ → List ℕ → Type 0
-IsRunOrShort status text = (budget : ℕ) (code : List Instr) → IsFirstForm text budget code → (status ≡ 0) ⊎ (status ≡ 6) ⊎ (status ≡ 7)
+IsRunOrShort status text = (budget : ℕ) (code : List Instr) → IsFirstForm text budget code
+    → (status ≡ 0) ⊎ ((status ≡ 6) × (budget < enough_turns code)) ⊎ (status ≡ 7)

@@ -19,7 +19,8 @@ returns-in-Ok-read_first_form g c =
     let text : IsFirstForm c.in-Ok.bytes.items read.0 read.1 = subst (λ x. IsFirstForm x read.0 read.1) c.deref.ensures.value read.2 in
     record {
       story = logging_ends _ _ _ _ _ c.in-Ok-read_first_form.form.setup c.in-Ok.bytes.items read.0 read.1 (c.if-not-are_accepted.ensures.0 refl)
-          c.in-Ok.ensures.ended c.in-Ok.ensures.bytes text read.3 c.run_form.ensures;
+          c.in-Ok.ensures.ended c.in-Ok.ensures.bytes text read.3
+          (λ b code h. c.in-Ok-read_first_form.ensures.only b code (subst (λ x. IsFirstForm x b code) (sym c.deref.ensures.value) h)) c.run_form.ensures;
     }
 
 pub returns : goal.returns
