@@ -231,7 +231,7 @@ kill_answered : (x : Before) (s : Step) (z q n : ℤ) (a : Answer) → x.exit �
     → PosixStep (code_in x ∷ []) (posix_of Runs (image_of x.own) x.came) (event.Kill 2 q n a) (posix_of Runs (with_result (image_of x.own) z None) x.came)
     → IsGood x s Runs Runs x.exit (answers x.own z (event.Kill 2 q n a))
 kill_answered x s z q n a none costs kills goes =
-    answered x s z (event.Kill 2 q n a) none costs (kill_goes_past x q n kills) goes (λ called answer. record { place = own_turn x s; death = tt; host = tt })
+    answered x s z (event.Kill 2 q n a) none costs (kill_goes_past x q n kills) goes (λ called answer. record { carried_out = refl; place = own_turn x s; death = tt; host = tt })
 
 target_good : (x : Before) (n : ℕ) → x.exit ≡ 0 → KillsNext x (pos n) (pos 0) → n ≢ 0 → IsGood x step.Look Runs Runs x.exit (finds_target x.own n)
 target_good x n none kills some = by_test x step.Look Runs Runs x.exit (nat_le 2 n && nat_le n 4001) (goes_to (step.Target n) x.own) (answers x.own (negsuc 2) (event.Kill 2 (pos n) (pos 0) (Error errno.ESRCH)))
@@ -260,7 +260,7 @@ call_good : (x : Before) (i : Instr) → x.exit ≡ 0 → upcoming (code_in x) (
 call_good x instr.GetPid unwritten next form = answered x step.Look (pos 2) (event.Get 2 field.Pid (pos 2)) unwritten look_costs
     (λ i e. let is : i ≡ instr.GetPid = the_call i instr.GetPid (sym e ∙ next) in ap is_exit is)
     (get_pid_step (code_in x) (image_of x.own) x.came x.first.program next)
-    (λ called answer. record { place = own_turn x step.Look; death = tt; host = tt })
+    (λ called answer. record { carried_out = refl; place = own_turn x step.Look; death = tt; host = tt })
 call_good x (instr.Kill (Number (pos n)) (Number (pos k))) unwritten next form =
     let in_range : (nat_le n 4001 && nat_eq k 0) ≡ true = and_right (nat_le 1 n) (nat_le n 4001 && nat_eq k 0) form in
     let none : k ≡ 0 = eqb-true k 0 (and_right (nat_le n 4001) (nat_eq k 0) in_range) in
@@ -417,7 +417,7 @@ seal_keeps x status exits wrote called answer told next new d =
       small = exits.small;
       main = (refl, refl);
       event = death_step (code_in x) (image_of x.own) x.came status x.first.program exits.next;
-      evidence = λ called answer. record { place = record { slot = 1; thread = 0; turn = refl }; death = tells_exit x s status exits.small wrote; host = tt };
+      evidence = λ called answer. record { carried_out = refl; place = record { slot = 1; thread = 0; turn = refl }; death = tells_exit x s status exits.small wrote; host = tt };
       fewer = omega arith;
     })
     refl (exchange_went x s Runs 1 first_main_word sealed (omega arith) refl called answer told next new d)
@@ -439,7 +439,7 @@ gather_keeps x status small called answer told next new d =
       small = small;
       main = refl;
       event = collect_step (code_in x ∷ []) (image_of x.own) x.came status;
-      evidence = λ called answer. record { place = record { slot = 1; thread = 0; turn = refl }; death = tt; host = tt };
+      evidence = λ called answer. record { carried_out = refl; place = record { slot = 1; thread = 0; turn = refl }; death = tt; host = tt };
       fewer = omega arith;
     })
     refl went

@@ -114,6 +114,7 @@ ask_keeps x code small called answer told next new d =
       event = host_step x.codes (image_of x.own) code;
       fewer = omega arith;
       evidence = record {
+        carried_out = refl;
         place = refl;
         death = tt;
         host = record {

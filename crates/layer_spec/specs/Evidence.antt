@@ -1,5 +1,5 @@
 -- What an entry of a journal says of itself: the discipline of every entry, and what the entry of an event shows.
-use Rattle.std.specs.Prelude.{◌≡◌, ℕ, ◌-◌, ◌*◌, ◌<◌, ◌≤◌, ℤ, pos, Bool, true, false, ◌||◌, ◌↔◌, nat_eq, if◌then◌else◌, List, [], ◌∷◌, Option, Some, None, MatchOption}
+use Rattle.std.specs.Prelude.{◌≡◌, ℕ, ◌-◌, ◌*◌, ◌<◌, ◌≤◌, ℤ, pos, Bool, true, false, ◌||◌, ◌↔◌, nat_eq, if◌then◌else◌, List, [], ◌∷◌, Option, Some, None, IsSome, MatchOption}
 use Rattle.std.specs.List.{All}
 use Rattle.w32_base.specs.declared.call.Call.{Call}
 use Rattle.w32_base.specs.declared.call.Call.TheVariants as call
@@ -196,8 +196,10 @@ abbrev pub HostReadsStatus : List Seen → Win32State → Entry → Event → Ty
 HostReadsStatus past s e (event.Host p n) = ReadsCode past s e n
 HostReadsStatus past s e _ = Unit {0}
 
--- what the entry of an event shows, after the entries before it, in the state before it
+-- What the entry of an event shows, after the entries before it, in the state before it. It is that of a call that was
+-- carried out: an idle turn has no event.
 pub record Shows (past : List Seen) (s : Win32State) (e : Entry) (event : Event) : Type 0 where
+  pub carried_out : IsSome e.call
   pub place : StandsInPlace s e.directive event
   pub death : DeathIsTrue s event
   pub host : HostReadsStatus past s e event
