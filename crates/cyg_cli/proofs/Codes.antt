@@ -1,20 +1,13 @@
 -- What is left of a program of the first form.
-use Rattle.std.proofs.Common.{◌≡◌, ℕ, zero, suc, ◌<◌, Bool, true, false, ◌&&◌, List, [], ◌∷◌, drop, length, Some, None, slice_get, refl, sym, ◌∙◌, ap, arith}
-use Rattle.std.proofs.lemmas.Bool.{le-ltb}
+use Rattle.std.proofs.Common.{◌≡◌, ℕ, zero, suc, ◌<◌, true, false, List, [], ◌∷◌, drop, length, Some, None, slice_get, refl, sym, ◌∙◌, ap, arith}
+use Rattle.std.proofs.lemmas.Option.{same_Some}
+use Rattle.std.proofs.lemmas.Bool.{and_parts, le-ltb}
 use Rattle.w32_base.specs.declared.instr.Instr.{Instr}
 use Rattle.w32_base.specs.declared.instr.Instr.TheVariants as instr
 use Rattle.vm_spec.specs.Image.{Image, in_use, place_of}
 use Rattle.vm_spec.specs.Faults.{instr_faults}
 use Rattle.vm_spec.specs.Step.{CallInstruction, upcoming, upcoming_at, is_local}
 use Rattle.layer_spec.specs.FirstForm.{is_first_form_instr, is_exit, is_first_form_code}
-
-pub and_left : (a b : Bool) → (a && b) ≡ true → a ≡ true
-and_left true b e = refl
-and_left false b e = cc
-
-pub and_right : (a b : Bool) → (a && b) ≡ true → b ≡ true
-and_right true b e = e
-and_right false b e = cc
 
 -- what is left from a place on is itself of the first form
 abbrev pub IsAhead : List Instr → ℕ → Type 0
@@ -35,21 +28,18 @@ pub record InstrAt (code : List Instr) (n : ℕ) : Type 0 where
 pub instr_ahead : (code : List Instr) (n : ℕ) → IsAhead code n → InstrAt code n
 instr_ahead [] zero h = let never : false ≡ true = h in cc
 instr_ahead [] (suc n) h = let never : false ≡ true = h in cc
-instr_ahead (i ∷ []) zero h = record { it = i; found = refl; form = and_left (is_first_form_instr i) (is_exit i) h }
-instr_ahead (i ∷ j ∷ is) zero h = record { it = i; found = refl; form = and_left (is_first_form_instr i) (is_first_form_code (j ∷ is)) h }
+instr_ahead (i ∷ []) zero h = record { it = i; found = refl; form = (and_parts (is_first_form_instr i) (is_exit i) h).0 }
+instr_ahead (i ∷ j ∷ is) zero h = record { it = i; found = refl; form = (and_parts (is_first_form_instr i) (is_first_form_code (j ∷ is)) h).0 }
 instr_ahead (i ∷ is) (suc n) h = let k : InstrAt is n = instr_ahead is n h in record { it = k.it; found = k.found; form = k.form }
-
-the_instr : (i j : Instr) → Some i ≡ Some j → i ≡ j
-the_instr i j e = cc
 
 -- after an instruction that is no exit there is another one
 pub ahead_on : (code : List Instr) (n : ℕ) (i : Instr) → slice_get code n ≡ Some i → is_exit i ≡ false → IsAhead code n → IsAhead code (suc n)
 ahead_on [] n i f e h = let never : None ≡ Some i = f in cc
 ahead_on (c ∷ []) zero i f e h =
-    let exits : is_exit c ≡ true = and_right (is_first_form_instr c) (is_exit c) h in
-    let never : true ≡ false = sym exits ∙ ap is_exit (the_instr c i f) ∙ e in
+    let exits : is_exit c ≡ true = (and_parts (is_first_form_instr c) (is_exit c) h).1 in
+    let never : true ≡ false = sym exits ∙ ap is_exit (same_Some c i f) ∙ e in
     cc
-ahead_on (c ∷ j ∷ is) zero i f e h = and_right (is_first_form_instr c) (is_first_form_code (j ∷ is)) h
+ahead_on (c ∷ j ∷ is) zero i f e h = (and_parts (is_first_form_instr c) (is_first_form_code (j ∷ is)) h).1
 ahead_on (c ∷ is) (suc n) i f e h = ahead_on is n i f e h
 
 -- an instruction of the first form is a call, and doesn't fault

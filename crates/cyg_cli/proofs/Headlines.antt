@@ -1,5 +1,7 @@
 -- A run by the parts of the threads has the headline.
 use Rattle.std.proofs.Common.{◌≡◌, ℕ, ◌*◌, Bool, true, false, cond, nat_eq, List, [], ◌∷◌, map, replicate, Option, Some, None, refl, sym, ◌∙◌, ap, subst, arith, inl, inr, ◌⊎◌, zero, suc, length, ◌+◌, ◌<◌, ◌≤◌}
+use Rattle.std.proofs.lemmas.List.{length-replicate}
+use Rattle.std.proofs.lemmas.Option.{same_Some}
 use Rattle.std.specs.Prelude.{MatchBool, MatchOption}
 use Rattle.std.proofs.lemmas.Bool.{eqb-true, eqb-false}
 use Rattle.w32_base.specs.declared.call.Call.{Call}
@@ -50,9 +52,6 @@ use Rattle.cyg_cli.proofs.StarterTurns.{StarterBefore, StarterKept, starter_keep
 
 -- which threads there are
 
-the_process : (p q : Process) → Some p ≡ Some q → q ≡ p
-the_process p q e = cc
-
 abbrev Place : Life → ℕ → ℕ → Type 0
 Place life slot t = ((slot ≡ 0) × (t ≡ 1)) ⊎ ((slot ≡ 1) × (t ≡ 0) × (life ≡ Alive))
 
@@ -63,13 +62,13 @@ only_thread n t y x false e is = let never : None ≡ Some x = is in cc
 host_place : (a b : ℕ) (hp : Call) (slot t : ℕ) (p : Process) (x : Thread) → 0 ≡ slot → Some (host_at a b hp) ≡ Some p → thread_in p.threads t ≡ Some x
     → (slot ≡ 0) × (t ≡ 1)
 host_place a b hp slot t p x s e f =
-    let is : thread_in (host_at a b hp).threads t ≡ Some x = subst (λ (q : Process). thread_in q.threads t ≡ Some x) (the_process (host_at a b hp) p e) f in
+    let is : thread_in (host_at a b hp).threads t ≡ Some x = subst (λ (q : Process). thread_in q.threads t ≡ Some x) (sym (same_Some (host_at a b hp) p e)) f in
     (sym s, only_thread 1 t _ x (nat_eq 1 t) refl is)
 
 layer_place : (a : ℕ) (lp : Call) (own : Own) (slot t : ℕ) (p : Process) (x : Thread) → 1 ≡ slot → Some (layer_at a Alive lp own) ≡ Some p → thread_in p.threads t ≡ Some x
     → (slot ≡ 1) × (t ≡ 0)
 layer_place a lp own slot t p x s e f =
-    let is : thread_in (layer_at a Alive lp own).threads t ≡ Some x = subst (λ (q : Process). thread_in q.threads t ≡ Some x) (the_process (layer_at a Alive lp own) p e) f in
+    let is : thread_in (layer_at a Alive lp own).threads t ≡ Some x = subst (λ (q : Process). thread_in q.threads t ≡ Some x) (sym (same_Some (layer_at a Alive lp own) p e)) f in
     (sym s, only_thread 0 t _ x (nat_eq 0 t) refl is)
 
 place_alive : (a b : ℕ) (hp lp : Call) (own : Own) (slot t : ℕ) (p : Process) (x : Thread) (c d : Bool) → nat_eq 0 slot ≡ c → nat_eq 1 slot ≡ d
@@ -423,13 +422,9 @@ zeros_are zero i = refl
 zeros_are (suc n) zero = refl
 zeros_are (suc n) (suc i) = zeros_are n i
 
-zeros_long : (n : ℕ) → length (zeros_of n) ≡ n
-zeros_long zero = refl
-zeros_long (suc n) = ap suc (zeros_long n)
-
 opening_tail : OpeningTail
 unfolding opening_words
-opening_tail = record { tail = zeros_of 11997; zeros = zeros_are 11997; long = zeros_long 11997; words = refl }
+opening_tail = record { tail = zeros_of 11997; zeros = zeros_are 11997; long = length-replicate {A = ℕ} 11997 0; words = refl }
 
 abbrev opening_shape : Program → Shape
 opening_shape program = record { stage = Runs; exit = 0; life = Alive; own = opening_memory program; main = step.Start; starter = step.Start; came = false }

@@ -2,7 +2,7 @@
 use Rattle.std.proofs.Common.{◌≡◌, ◌≢◌, ℕ, zero, suc, ◌+◌, ◌-◌, ◌≤◌, ◌<◌, Bool, true, false, cond, ◌&&◌, ◌||◌, nat_eq, List, [], ◌∷◌, length, get_or, set, Option, Some, None, refl, sym, ◌∙◌, ap, subst, arith}
 use Rattle.std.specs.Prelude.{ℤ, pos, negsuc, nat_le, nat_lt, slice_get, MatchOption}
 use Rattle.std.specs.Int.{w32, cast_unsigned}
-use Rattle.std.proofs.lemmas.Bool.{eq-eqb, eqb-true, eqb-false, lt-ltb, leb-true}
+use Rattle.std.proofs.lemmas.Bool.{and_parts, eq-eqb, eqb-true, eqb-false, lt-ltb, leb-true}
 use Rattle.w32_base.specs.declared.call.Call.{Call}
 use Rattle.w32_base.specs.declared.call.Call.TheVariants as call
 use Rattle.w32_base.specs.declared.call.Reply.{Reply}
@@ -38,7 +38,7 @@ use Rattle.cyg_cli.specs.Entries.{turn_entry}
 use Rattle.cyg_cli.specs.Layer.{Did, goes_to, posted_at, first_code, can_take, answers, finds_target, begins_kill, goes_on, checked, main_after}
 use Rattle.cyg_cli.specs.ThreadPart.{call_of, Goes}
 use Rattle.cyg_cli.proofs.Bytes.{length-with_word, word_at-with_word, word_at-with_word_same}
-use Rattle.cyg_cli.proofs.Codes.{IsAhead, InstrAt, and_left, and_right, ahead_below, instr_ahead, ahead_on, call_ahead}
+use Rattle.cyg_cli.proofs.Codes.{IsAhead, InstrAt, ahead_below, instr_ahead, ahead_on, call_ahead}
 use Rattle.cyg_cli.proofs.Seats.{AreObjects, state_at, layer_at, main_part, MainWent, main_loads, main_exchanges, main_leaves}
 use Rattle.cyg_cli.proofs.Shapes.{Stage, Runs, Died, Left, Shape, words_at, machine_at, posix_at, IsFirst, ExitsNext, MainAt, StarterAt, IsSmall, Fits, main_turns, starter_turns, left_in, turns_left}
 use Rattle.cyg_cli.proofs.PosixSteps.{posix_of, same_number, get_pid_step, nobody_step, itself_step, death_step, collect_step}
@@ -236,7 +236,7 @@ kill_answered x s z q n a none costs kills goes =
 target_good : (x : Before) (n : ℕ) → x.exit ≡ 0 → KillsNext x (pos n) (pos 0) → n ≢ 0 → IsGood x step.Look Runs Runs x.exit (finds_target x.own n)
 target_good x n none kills some = by_test x step.Look Runs Runs x.exit (nat_le 2 n && nat_le n 4001) (goes_to (step.Target n) x.own) (answers x.own (negsuc 2) (event.Kill 2 (pos n) (pos 0) (Error errno.ESRCH)))
     (λ e. moves x step.Look (step.Target n) Runs x.exit tt
-    (refl, none, kills, leb-true 2 n (and_left (nat_le 2 n) (nat_le n 4001) e), leb-true n 4001 (and_right (nat_le 2 n) (nat_le n 4001) e)) (omega arith))
+    (refl, none, kills, leb-true 2 n (and_parts (nat_le 2 n) (nat_le n 4001) e).0, leb-true n 4001 (and_parts (nat_le 2 n) (nat_le n 4001) e).1) (omega arith))
     (λ e. kill_answered x step.Look (negsuc 2) (pos n) (pos 0) (Error errno.ESRCH) none look_costs kills
     (nobody_step (code_in x) (image_of x.own) x.came n x.first.program kills some (λ two. let never : true ≡ false = rw (sym two) at e in cc)))
 
@@ -262,9 +262,9 @@ call_good x instr.GetPid unwritten next form = answered x step.Look (pos 2) (eve
     (get_pid_step (code_in x) (image_of x.own) x.came x.first.program next)
     (λ called answer. record { carried_out = refl; place = own_turn x step.Look; death = tt; host = tt })
 call_good x (instr.Kill (Number (pos n)) (Number (pos k))) unwritten next form =
-    let in_range : (nat_le n 4001 && nat_eq k 0) ≡ true = and_right (nat_le 1 n) (nat_le n 4001 && nat_eq k 0) form in
-    let none : k ≡ 0 = eqb-true k 0 (and_right (nat_le n 4001) (nat_eq k 0) in_range) in
-    let low : 1 ≤ n = leb-true 1 n (and_left (nat_le 1 n) (nat_le n 4001 && nat_eq k 0) form) in
+    let in_range : (nat_le n 4001 && nat_eq k 0) ≡ true = (and_parts (nat_le 1 n) (nat_le n 4001 && nat_eq k 0) form).1 in
+    let none : k ≡ 0 = eqb-true k 0 (and_parts (nat_le n 4001) (nat_eq k 0) in_range).1 in
+    let low : 1 ≤ n = leb-true 1 n (and_parts (nat_le 1 n) (nat_le n 4001 && nat_eq k 0) form).0 in
     let image : Image = image_of x.own in
     let is : is_kill (CallInstruction (instr.Kill (Number (pos n)) (Number (pos 0)))) image (pos n) (pos 0) ≡ true = rw (same_number (pos n)) refl in
     let there : upcoming (code_in x) image ≡ CallInstruction (instr.Kill (Number (pos n)) (Number (pos 0))) =

@@ -1,5 +1,6 @@
 -- The Win32 state of a run by its parts, and what the turns of its two threads do to it.
-use Rattle.std.proofs.Common.{◌≡◌, ◌≢◌, ℕ, ◌*◌, true, false, nat_eq, List, [], ◌∷◌, Option, Some, None, refl, ◌∙◌, ap, subst, arith}
+use Rattle.std.proofs.Common.{◌≡◌, ◌≢◌, ℕ, ◌*◌, true, false, nat_eq, List, [], ◌∷◌, Option, Some, None, refl, sym, ◌∙◌, ap, subst, arith}
+use Rattle.std.proofs.lemmas.Option.{same_Some}
 use Rattle.std.specs.Prelude.{MatchBool}
 use Rattle.std.proofs.lemmas.Bool.{ne_eqb, eq-eqb}
 use Rattle.w32_base.specs.declared.call.Call.{Call}
@@ -176,29 +177,23 @@ carried_by s slot t part setup called answer event next new p x d e f = record {
       ((new ≡ d.mid) × (event ≡ None) × (next ≡ part))) e d.goes_on;
 }
 
-the_process : (a b : Process) → Some a ≡ Some b → b ≡ a
-the_process a b e = cc
-
-the_thread : (a b : Thread) → Some a ≡ Some b → b ≡ a
-the_thread a b e = cc
-
 pub main_carried : (a b : ℕ) (words : List ℕ) (hp lp : Call) (own : Own) (part : ThreadPart) (setup : Setup) (called : Call) (answer : Reply) (event : Option Event) (next : ThreadPart) (new : Win32State)
     → DrivenStep Goes call_of (state_at a b words hp Alive lp own) 1 0 part setup called answer event next new
     → Carried (state_at a b words hp Alive lp own) 2 0 lp part setup called answer event next new
 main_carried a b words hp lp own part setup called answer event next new d =
-    let p : d.process ≡ layer_at a Alive lp own = the_process (layer_at a Alive lp own) d.process d.posted.thread.process in
+    let p : d.process ≡ layer_at a Alive lp own = sym (same_Some (layer_at a Alive lp own) d.process d.posted.thread.process) in
     let x : Thread = record { number = 0; suspended = 0; posted = lp } in
     let found : Some x ≡ Some d.thread = subst (λ (q : Process). thread_in q.threads 0 ≡ Some d.thread) p d.posted.thread.thread in
-    carried_by (state_at a b words hp Alive lp own) 1 0 part setup called answer event next new (layer_at a Alive lp own) x d p (the_thread x d.thread found)
+    carried_by (state_at a b words hp Alive lp own) 1 0 part setup called answer event next new (layer_at a Alive lp own) x d p (sym (same_Some x d.thread found))
 
 pub starter_carried : (a b : ℕ) (words : List ℕ) (hp : Call) (life : Life) (lp : Call) (own : Own) (part : ThreadPart) (setup : Setup) (called : Call) (answer : Reply) (event : Option Event) (next : ThreadPart) (new : Win32State)
     → DrivenStep Goes call_of (state_at a b words hp life lp own) 0 1 part setup called answer event next new
     → Carried (state_at a b words hp life lp own) 1 1 hp part setup called answer event next new
 starter_carried a b words hp life lp own part setup called answer event next new d =
-    let p : d.process ≡ host_at a b hp = the_process (host_at a b hp) d.process d.posted.thread.process in
+    let p : d.process ≡ host_at a b hp = sym (same_Some (host_at a b hp) d.process d.posted.thread.process) in
     let x : Thread = record { number = 1; suspended = 0; posted = hp } in
     let found : Some x ≡ Some d.thread = subst (λ (q : Process). thread_in q.threads 1 ≡ Some d.thread) p d.posted.thread.thread in
-    carried_by (state_at a b words hp life lp own) 0 1 part setup called answer event next new (host_at a b hp) x d p (the_thread x d.thread found)
+    carried_by (state_at a b words hp life lp own) 0 1 part setup called answer event next new (host_at a b hp) x d p (sym (same_Some x d.thread found))
 
 -- where a thread of the layer or of the host went
 pub record MainWent (a b : ℕ) (words : List ℕ) (hp : Call) (did : Did) (next : ThreadPart) (event : Option Event) (new : Win32State) : Type 0 where

@@ -1,5 +1,6 @@
 -- The states of both machines in a run of the first path, by a few parts.
 use Rattle.std.proofs.Common.{◌≡◌, ℕ, ◌+◌, ◌-◌, ◌*◌, ◌<◌, ◌≤◌, Bool, true, false, cond, nat_eq, List, [], ◌∷◌, drop, replicate, length, Option, Some, None, refl, sym, ◌∙◌, ap, subst, arith}
+use Rattle.std.proofs.lemmas.Option.{same_Some}
 use Rattle.std.specs.Prelude.{IsSome, is_some, pos}
 use Rattle.std.proofs.lemmas.Bool.{eqb-true}
 use Rattle.w32_base.specs.declared.call.Call.{Call}
@@ -208,17 +209,14 @@ held a lp own p e f = record {
       ∙ ap (λ rs. is_child_of 2 (record_of rs n)) (sym f);
 }
 
-the_process : (a b : Process) → Some a ≡ Some b → a ≡ b
-the_process a b e = cc
-
 -- where the layer process is alive, its memory is the one that is shown
 held_by : (a b : ℕ) (words : List ℕ) (hp : Call) (life : Life) (lp : Call) (own : Own) (p : PosixState) → own.cyg ≡ opening_cyg
     → p.records ≡ records_at Runs (image_of own) → (q : Process)
     → process_of (state_at a b words hp life lp own).processes 2 ≡ Some q → is_alive q.life ≡ true → HoldsRecord q p 2 (first_record Running (image_of own))
 held_by a b words hp Alive lp own p e f q is alive =
-    subst (λ (x : Process). HoldsRecord x p 2 (first_record Running (image_of own))) (the_process (layer_at a Alive lp own) q is) (held a lp own p e f)
+    subst (λ (x : Process). HoldsRecord x p 2 (first_record Running (image_of own))) (same_Some (layer_at a Alive lp own) q is) (held a lp own p e f)
 held_by a b words hp (Ended code) lp own p e f q is alive =
-    let never : false ≡ true = ap (λ (x : Process). is_alive x.life) (the_process (layer_at a (Ended code) lp own) q is) ∙ alive in cc
+    let never : false ≡ true = ap (λ (x : Process). is_alive x.life) (same_Some (layer_at a (Ended code) lp own) q is) ∙ alive in cc
 
 -- the fields of a sealed word
 
@@ -270,9 +268,6 @@ only_number : (n : ℕ) (r : Record) (b : Bool) → nat_eq 2 n ≡ b → IsSome 
 only_number n r true e some = let is : 2 ≡ n = eqb-true 2 n e in (omega arith, omega arith)
 only_number n r false e some = let never : false ≡ true = some in cc
 
-the_record : (a b : Record) → Some a ≡ Some b → a ≡ b
-the_record a b e = cc
-
 -- facts of row 1 alone
 pub of_row : (P : ℕ → Type 0) → P 1 → (row : ℕ) → 1 ≤ row → row ≤ 1 → P row
 of_row P p row low high = let is : 1 ≡ row = omega arith in subst P is p
@@ -286,7 +281,7 @@ decodes_running a b tail exit hp life lp own p e f =
       numbers = rw f (λ n some. only_number n (first_record Running (image_of own)) (nat_eq 2 n) refl some);
       present = rw f (of_row (λ row. is_record_word (main_word s row) ≡ is_some (record_of rs (row + 1))) refl);
       shown = λ row r low high. of_row (λ row. record_of p.records (row + 1) ≡ Some r → ShowsRecord s p row r)
-          (λ is. subst (λ x. ShowsRecord s p 1 x) (the_record (first_record Running (image_of own)) r (ap (λ xs. record_of xs 2) (sym f) ∙ is))
+          (λ is. subst (λ x. ShowsRecord s p 1 x) (same_Some (first_record Running (image_of own)) r (ap (λ xs. record_of xs 2) (sym f) ∙ is))
           (shows_running a b tail exit hp life lp own p e f))
           row low high;
     }
@@ -301,7 +296,7 @@ decodes_zombie a b tail exit hp life lp own status p l f =
       numbers = rw f (λ n some. only_number n (first_record (Zombie status) (image_of own)) (nat_eq 2 n) refl some);
       present = rw f (of_row (λ row. is_record_word (main_word s row) ≡ is_some (record_of rs (row + 1))) word);
       shown = λ row r low high. of_row (λ row. record_of p.records (row + 1) ≡ Some r → ShowsRecord s p row r)
-          (λ is. subst (λ x. ShowsRecord s p 1 x) (the_record (first_record (Zombie status) (image_of own)) r (ap (λ xs. record_of xs 2) (sym f) ∙ is))
+          (λ is. subst (λ x. ShowsRecord s p 1 x) (same_Some (first_record (Zombie status) (image_of own)) r (ap (λ xs. record_of xs 2) (sym f) ∙ is))
           (shows_zombie a b tail exit hp life lp own status p l))
           row low high;
     }
