@@ -13,15 +13,15 @@ use Rattle.w32_base.specs.declared.instr.Instr.{Instr}
 use Rattle.w32_base.specs.declared.instr.Instr.TheVariants as instr
 use Rattle.w32_base.specs.declared.own.Own.{Own}
 use Rattle.w32_base.specs.declared.setup.Setup.{Setup}
-use Rattle.win32_spec.specs.State.{Win32State}
-use Rattle.win32_spec.specs.Lookup.{process_of}
-use Rattle.win32_spec.specs.Run.{is_live}
+use Rattle.first_win32_spec.specs.State.{Win32State}
+use Rattle.first_win32_spec.specs.Lookup.{process_of}
+use Rattle.first_win32_spec.specs.Run.{is_live}
 use Rattle.vm_spec.specs.Image.{image_of, value_of}
 use Rattle.vm_spec.specs.Step.{Upcoming, LocalInstruction, CallInstruction, ImageFault, upcoming}
-use Rattle.posix_spec.specs.Step.{is_invalid_kill, is_same_number}
-use Rattle.layer_spec.specs.LogText.{is_built_event, is_built_entry}
-use Rattle.layer_spec.specs.Rows.{is_running_word, is_zombie_word, is_record_word, parent_of}
-use Rattle.w32_machine.specs.Contract.{DrivenStep, PartGoes}
+use Rattle.first_posix_spec.specs.Step.{is_invalid_kill, is_same_number}
+use Rattle.first_layer_spec.specs.LogText.{is_built_event, is_built_entry}
+use Rattle.first_layer_spec.specs.Rows.{is_running_word, is_zombie_word, is_record_word, parent_of}
+use Rattle.first_machine.specs.Contract.{DrivenStep, PartGoes}
 use Rattle.cyg_cli.specs.declared.layer.part.ThreadPart.{ThreadPart}
 use Rattle.cyg_cli.specs.declared.layer.step.Step.{Step}
 use Rattle.cyg_cli.specs.declared.layer.step.Step.TheVariants as step

@@ -7,7 +7,7 @@ use Rattle.w32_base.specs.declared.instr.Instr.TheVariants as instr
 use Rattle.vm_spec.specs.Image.{Image, in_use, place_of}
 use Rattle.vm_spec.specs.Faults.{instr_faults}
 use Rattle.vm_spec.specs.Step.{CallInstruction, upcoming, upcoming_at, is_local}
-use Rattle.layer_spec.specs.FirstForm.{is_first_form_instr, is_exit, is_first_form_code}
+use Rattle.first_layer_spec.specs.FirstForm.{is_first_form_instr, is_exit, is_first_form_code}
 
 -- what is left from a place on is itself of the first form
 abbrev pub IsAhead : List Instr → ℕ → Type 0

@@ -8,8 +8,8 @@ use Rattle.w32_base.specs.declared.setup.Setup.{Setup}
 use Rattle.cyg_io.specs.Counts.{RoseBy}
 use Rattle.cyg_io.specs.Source.{Draws}
 use Rattle.first_form.specs.OneProgram.{IsOneProgram}
-use Rattle.layer_spec.specs.FirstForm.{IsFirstForm}
-use Rattle.layer_spec.specs.Headline.{Headline}
+use Rattle.first_layer_spec.specs.FirstForm.{IsFirstForm}
+use Rattle.first_layer_spec.specs.Headline.{Headline}
 use Rattle.cyg_cli.specs.Top.{Outside, run_calls, Ends, Refused, RefusedInPart, Logged, LoggedInPart, NoMemory, Refuses, Runs, IsSettled, enough_turns, IsScriptOf, IsUnbuilt}
 use Rattle.cyg_cli.specs.TopParts.{IsRefusal, IsLogOf, IsLogging}
 use Rattle.cyg_cli.proofs.Texts.{first_form_short}

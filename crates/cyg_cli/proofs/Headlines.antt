@@ -17,23 +17,23 @@ use Rattle.w32_base.specs.declared.instr.Instr.{Instr}
 use Rattle.w32_base.specs.declared.own.Own.{Own}
 use Rattle.w32_base.specs.declared.setup.Program.{Program}
 use Rattle.w32_base.specs.declared.setup.Setup.{Setup}
-use Rattle.win32_spec.specs.State.{Life, Alive, Ended, Process, Thread, Win32State}
-use Rattle.win32_spec.specs.Lookup.{is_alive, process_of, process_in, thread_in}
-use Rattle.win32_spec.specs.Opening.{opening_words, opening_memory}
-use Rattle.win32_spec.specs.Call.{CallStep}
-use Rattle.win32_spec.specs.Ready.{is_ready, is_process_ready, is_thread_ready, IsQuiet}
-use Rattle.win32_spec.specs.Run.{is_live}
-use Rattle.win32_spec.specs.Schedule.{Settle, EndsBy}
+use Rattle.first_win32_spec.specs.State.{Life, Alive, Ended, Process, Thread, Win32State}
+use Rattle.first_win32_spec.specs.Lookup.{is_alive, process_of, process_in, thread_in}
+use Rattle.first_win32_spec.specs.Opening.{opening_words, opening_memory}
+use Rattle.first_win32_spec.specs.Call.{CallStep}
+use Rattle.first_win32_spec.specs.Ready.{is_ready, is_process_ready, is_thread_ready, IsQuiet}
+use Rattle.first_win32_spec.specs.Run.{is_live}
+use Rattle.first_win32_spec.specs.Schedule.{Settle, EndsBy}
 use Rattle.vm_spec.specs.Image.{image_of, word_at}
-use Rattle.posix_spec.specs.State.{PosixState, opening_record}
-use Rattle.posix_spec.specs.Opening.{opening_of, new_image}
-use Rattle.posix_spec.specs.Run.{PosixStep}
-use Rattle.layer_spec.specs.Rows.{image_no}
-use Rattle.layer_spec.specs.Decodes.{Decodes, main_word}
-use Rattle.layer_spec.specs.FirstForm.{is_first_form_code}
-use Rattle.layer_spec.specs.Evidence.{Seen, KeepsDiscipline, HasEvidence, is_live_word, is_create, is_claim, ends_process, was_ended}
-use Rattle.layer_spec.specs.Headline.{codes_of, HeadlineStep, HeadlineRun, Headline}
-use Rattle.w32_machine.specs.Contract.{DrivenStep}
+use Rattle.first_posix_spec.specs.State.{PosixState, opening_record}
+use Rattle.first_posix_spec.specs.Opening.{opening_of, new_image}
+use Rattle.first_posix_spec.specs.Run.{PosixStep}
+use Rattle.first_layer_spec.specs.Rows.{image_no}
+use Rattle.first_layer_spec.specs.Decodes.{Decodes, main_word}
+use Rattle.first_layer_spec.specs.FirstForm.{is_first_form_code}
+use Rattle.first_layer_spec.specs.Evidence.{Seen, KeepsDiscipline, HasEvidence, is_live_word, is_create, is_claim, ends_process, was_ended}
+use Rattle.first_layer_spec.specs.Headline.{codes_of, HeadlineStep, HeadlineRun, Headline}
+use Rattle.first_machine.specs.Contract.{DrivenStep}
 use Rattle.first_form.specs.OneProgram.{IsOneProgram}
 use Rattle.cyg_cli.specs.declared.layer.part.ThreadPart.{ThreadPart}
 use Rattle.cyg_cli.specs.declared.layer.step.Step.{Step}

@@ -20,17 +20,17 @@ use Rattle.w32_base.specs.declared.instr.Instr.TheVariants as instr
 use Rattle.w32_base.specs.declared.instr.Operand.TheVariants.{Number}
 use Rattle.w32_base.specs.declared.own.Own.{Own}
 use Rattle.w32_base.specs.declared.setup.Setup.{Setup}
-use Rattle.win32_spec.specs.Objects.{load_reply, exchanged}
-use Rattle.win32_spec.specs.State.{Alive, Ended, Win32State}
-use Rattle.win32_spec.specs.Opening.{first_main_word}
+use Rattle.first_win32_spec.specs.Objects.{load_reply, exchanged}
+use Rattle.first_win32_spec.specs.State.{Alive, Ended, Win32State}
+use Rattle.first_win32_spec.specs.Opening.{first_main_word}
 use Rattle.vm_spec.specs.Image.{Image, image_of, with_image, with_result, moved_on, place_of, value_of}
 use Rattle.vm_spec.specs.Step.{CallInstruction, upcoming, low_byte}
-use Rattle.posix_spec.specs.Step.{is_kill, exit_status}
-use Rattle.posix_spec.specs.Run.{PosixStep}
-use Rattle.layer_spec.specs.Rows.{main_index, is_record_word, sealed_word, gone_word, exit_word}
-use Rattle.layer_spec.specs.FirstForm.{is_first_form_instr, is_exit}
-use Rattle.layer_spec.specs.Evidence.{Seen, Shows, HasEvidence, IsOwnTurn, TellsExit}
-use Rattle.w32_machine.specs.Contract.{DrivenStep}
+use Rattle.first_posix_spec.specs.Step.{is_kill, exit_status}
+use Rattle.first_posix_spec.specs.Run.{PosixStep}
+use Rattle.first_layer_spec.specs.Rows.{main_index, is_record_word, sealed_word, gone_word, exit_word}
+use Rattle.first_layer_spec.specs.FirstForm.{is_first_form_instr, is_exit}
+use Rattle.first_layer_spec.specs.Evidence.{Seen, Shows, HasEvidence, IsOwnTurn, TellsExit}
+use Rattle.first_machine.specs.Contract.{DrivenStep}
 use Rattle.cyg_cli.specs.declared.layer.part.ThreadPart.{ThreadPart}
 use Rattle.cyg_cli.specs.declared.layer.step.Step.{Step}
 use Rattle.cyg_cli.specs.declared.layer.step.Step.TheVariants as step

@@ -11,9 +11,9 @@ use Rattle.w32_base.specs.declared.instr.Instr.{Instr}
 use Rattle.w32_base.specs.declared.instr.Instr.TheVariants as instr
 use Rattle.vm_spec.specs.Image.{Image, program_of, with_result}
 use Rattle.vm_spec.specs.Step.{CallInstruction, upcoming}
-use Rattle.posix_spec.specs.State.{PosixState, Running, opening_terminal}
-use Rattle.posix_spec.specs.Step.{posix_step, next_of, is_kill, is_same_number, exit_status}
-use Rattle.posix_spec.specs.Run.{PosixStep}
+use Rattle.first_posix_spec.specs.State.{PosixState, Running, opening_terminal}
+use Rattle.first_posix_spec.specs.Step.{posix_step, next_of, is_kill, is_same_number, exit_status}
+use Rattle.first_posix_spec.specs.Run.{PosixStep}
 use Rattle.cyg_cli.proofs.Shapes.{Stage, Runs, Died, Left, first_record, records_at, status_at}
 
 -- the POSIX state by its parts

@@ -7,8 +7,8 @@ use Rattle.w32_base.specs.declared.call.Call.{Call}
 use Rattle.w32_base.specs.declared.call.Reply.{Reply}
 use Rattle.w32_base.specs.declared.event.Event.{Event}
 use Rattle.w32_base.specs.declared.entry.End.{End}
-use Rattle.win32_spec.specs.Ready.{IsNextReady}
-use Rattle.win32_spec.specs.Schedule.{EndsBy, Settle}
+use Rattle.first_win32_spec.specs.Ready.{IsNextReady}
+use Rattle.first_win32_spec.specs.Schedule.{EndsBy, Settle}
 use Rattle.cyg_cli.specs.Entries.{turn_entry}
 use Rattle.cyg_cli.specs.declared.layer.part.ThreadPart.{ThreadPart}
 use Rattle.cyg_cli.specs.declared.layer.step.Step.{Step}

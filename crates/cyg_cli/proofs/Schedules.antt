@@ -8,11 +8,11 @@ use Rattle.w32_base.specs.declared.entry.Entry.{Entry}
 use Rattle.w32_base.specs.declared.entry.Outcome.TheVariants.{Step, Idle}
 use Rattle.w32_base.specs.declared.entry.End.{End}
 use Rattle.w32_base.specs.declared.setup.Setup.{Setup}
-use Rattle.win32_spec.specs.State.{Win32State}
-use Rattle.win32_spec.specs.Lookup.{process_of}
-use Rattle.win32_spec.specs.Run.{ReadyTurn, Acts, is_live, DirectiveStep}
-use Rattle.win32_spec.specs.Schedule.{Position, Settle, ScheduledRun, GivesNext}
-use Rattle.w32_machine.specs.Contract.{DrivenStep, PartGoes}
+use Rattle.first_win32_spec.specs.State.{Win32State}
+use Rattle.first_win32_spec.specs.Lookup.{process_of}
+use Rattle.first_win32_spec.specs.Run.{ReadyTurn, Acts, is_live, DirectiveStep}
+use Rattle.first_win32_spec.specs.Schedule.{Position, Settle, ScheduledRun, GivesNext}
+use Rattle.first_machine.specs.Contract.{DrivenStep, PartGoes}
 use Rattle.cyg_cli.specs.Entries.{turn_entry}
 use Rattle.cyg_cli.specs.declared.layer.part.ThreadPart.{ThreadPart}
 use Rattle.cyg_cli.specs.declared.world.World.{World}

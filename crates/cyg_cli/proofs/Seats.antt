@@ -10,12 +10,12 @@ use Rattle.w32_base.specs.declared.call.Reply.TheVariants as reply
 use Rattle.w32_base.specs.declared.event.Event.{Event}
 use Rattle.w32_base.specs.declared.own.Own.{Own}
 use Rattle.w32_base.specs.declared.setup.Setup.{Setup}
-use Rattle.win32_spec.specs.Objects.{load_reply, exchanged}
-use Rattle.win32_spec.specs.State.{Section, ProcessObject, Life, Alive, Ended, Process, Thread, Win32State}
-use Rattle.win32_spec.specs.Lookup.{no_memory, process_of, thread_in, object_number, with_end, with_posted, with_own}
-use Rattle.win32_spec.specs.Call.{CallStep, object_by, words_of, word_reply, after_exchange, with_words, process_named, exit_code_reply}
-use Rattle.win32_spec.specs.Run.{is_live}
-use Rattle.w32_machine.specs.Contract.{DrivenStep, PartGoes}
+use Rattle.first_win32_spec.specs.Objects.{load_reply, exchanged}
+use Rattle.first_win32_spec.specs.State.{Section, ProcessObject, Life, Alive, Ended, Process, Thread, Win32State}
+use Rattle.first_win32_spec.specs.Lookup.{no_memory, process_of, thread_in, object_number, with_end, with_posted, with_own}
+use Rattle.first_win32_spec.specs.Call.{CallStep, object_by, words_of, word_reply, after_exchange, with_words, process_named, exit_code_reply}
+use Rattle.first_win32_spec.specs.Run.{is_live}
+use Rattle.first_machine.specs.Contract.{DrivenStep, PartGoes}
 use Rattle.cyg_cli.specs.declared.layer.part.ThreadPart.{ThreadPart}
 use Rattle.cyg_cli.specs.declared.layer.step.Step.{Step}
 use Rattle.cyg_cli.specs.declared.layer.step.Step.TheVariants as step

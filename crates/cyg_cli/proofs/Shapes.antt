@@ -7,17 +7,17 @@ use Rattle.w32_base.specs.declared.call.Call.{Call}
 use Rattle.w32_base.specs.declared.own.Own.{Own}
 use Rattle.w32_base.specs.declared.instr.Instr.{Instr}
 use Rattle.w32_base.specs.declared.instr.Action.TheVariants.{Default}
-use Rattle.win32_spec.specs.State.{Life, Alive, Ended, Process, Win32State}
-use Rattle.win32_spec.specs.Handles.{is_listed}
-use Rattle.win32_spec.specs.Lookup.{is_alive, process_of}
-use Rattle.win32_spec.specs.Opening.{first_main_word, first_group_word}
+use Rattle.first_win32_spec.specs.State.{Life, Alive, Ended, Process, Win32State}
+use Rattle.first_win32_spec.specs.Handles.{is_listed}
+use Rattle.first_win32_spec.specs.Lookup.{is_alive, process_of}
+use Rattle.first_win32_spec.specs.Opening.{first_main_word, first_group_word}
 use Rattle.vm_spec.specs.Image.{Image, image_of, program_of, place_of, in_use, word_at}
 use Rattle.vm_spec.specs.Step.{upcoming}
-use Rattle.posix_spec.specs.State.{Record, Numbered, PosixState, Running, Zombie, NoCall, record_of, opening_record, opening_terminal}
-use Rattle.posix_spec.specs.State.{Life as PosixLife}
-use Rattle.posix_spec.specs.Step.{exit_status, is_kill}
-use Rattle.layer_spec.specs.Rows.{sealed_word, gone_word, exit_word, kind_of, is_record_word, low_of, report_of, execd_of}
-use Rattle.layer_spec.specs.Decodes.{Decodes, ShowsRecord, HoldsRecord, main_word, saved_in, actions_from, children_in, children_from, is_child_of}
+use Rattle.first_posix_spec.specs.State.{Record, Numbered, PosixState, Running, Zombie, NoCall, record_of, opening_record, opening_terminal}
+use Rattle.first_posix_spec.specs.State.{Life as PosixLife}
+use Rattle.first_posix_spec.specs.Step.{exit_status, is_kill}
+use Rattle.first_layer_spec.specs.Rows.{sealed_word, gone_word, exit_word, kind_of, is_record_word, low_of, report_of, execd_of}
+use Rattle.first_layer_spec.specs.Decodes.{Decodes, ShowsRecord, HoldsRecord, main_word, saved_in, actions_from, children_in, children_from, is_child_of}
 use Rattle.cyg_cli.specs.declared.layer.step.Step.{Step}
 use Rattle.cyg_cli.specs.declared.layer.step.Step.TheVariants as step
 use Rattle.cyg_cli.specs.Layer.{posted_at}

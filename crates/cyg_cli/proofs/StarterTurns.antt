@@ -10,13 +10,13 @@ use Rattle.w32_base.specs.declared.entry.Outcome.TheVariants as outcome
 use Rattle.w32_base.specs.declared.instr.Instr.{Instr}
 use Rattle.w32_base.specs.declared.own.Own.{Own}
 use Rattle.w32_base.specs.declared.setup.Setup.{Setup}
-use Rattle.win32_spec.specs.State.{Life, Ended, Win32State}
-use Rattle.win32_spec.specs.Lookup.{no_memory}
-use Rattle.win32_spec.specs.Call.{process_named}
+use Rattle.first_win32_spec.specs.State.{Life, Ended, Win32State}
+use Rattle.first_win32_spec.specs.Lookup.{no_memory}
+use Rattle.first_win32_spec.specs.Call.{process_named}
 use Rattle.vm_spec.specs.Image.{image_of}
-use Rattle.posix_spec.specs.Run.{PosixStep}
-use Rattle.layer_spec.specs.Evidence.{Seen, HasEvidence, was_ended}
-use Rattle.w32_machine.specs.Contract.{DrivenStep}
+use Rattle.first_posix_spec.specs.Run.{PosixStep}
+use Rattle.first_layer_spec.specs.Evidence.{Seen, HasEvidence, was_ended}
+use Rattle.first_machine.specs.Contract.{DrivenStep}
 use Rattle.cyg_cli.specs.declared.layer.part.ThreadPart.{ThreadPart}
 use Rattle.cyg_cli.specs.declared.layer.step.Step.{Step}
 use Rattle.cyg_cli.specs.declared.layer.step.Step.TheVariants as step

@@ -7,7 +7,7 @@ use Rattle.std.proofs.lemmas.Bool.{and_parts, leb-true}
 use Rattle.w32_base.specs.declared.instr.Instr.{Instr}
 use Rattle.w32_base.specs.declared.instr.Instr.TheVariants.{GetPid, Kill, Exit}
 use Rattle.w32_base.specs.declared.instr.Operand.TheVariants.{Number}
-use Rattle.layer_spec.specs.FirstForm.{instr_line, is_first_form_instr, is_first_form_code, is_exit, last_lines, text_of, IsFirstForm}
+use Rattle.first_layer_spec.specs.FirstForm.{instr_line, is_first_form_instr, is_first_form_code, is_exit, last_lines, text_of, IsFirstForm}
 
 -- the digits of a number below a million
 digits_few : (n : ℕ) → n < 1000000 → length (decimal n) ≤ 6

@@ -16,8 +16,8 @@ use Rattle.w32_base.specs.declared.own.Own.{Own}
 use Rattle.w32_base.specs.declared.setup.Program.{Program}
 use Rattle.vm_spec.specs.Image.{image_of, with_image, place_of, value_of, with_result}
 use Rattle.vm_spec.specs.Step.{Upcoming, CallInstruction, upcoming, low_byte}
-use Rattle.posix_spec.specs.Step.{is_invalid_kill, is_same_number}
-use Rattle.layer_spec.specs.Rows.{main_index, is_running_word, is_zombie_word, is_record_word, sealed_word, gone_word, parent_of, exit_word}
+use Rattle.first_posix_spec.specs.Step.{is_invalid_kill, is_same_number}
+use Rattle.first_layer_spec.specs.Rows.{main_index, is_running_word, is_zombie_word, is_record_word, sealed_word, gone_word, parent_of, exit_word}
 use Rattle.cyg_cli.specs.declared.layer.step.Step.{Step}
 use Rattle.cyg_cli.specs.declared.layer.step.Step.TheVariants as step
 

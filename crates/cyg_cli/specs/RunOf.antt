@@ -4,9 +4,9 @@ use Rattle.w32_base.specs.declared.entry.Entry.{Entry}
 use Rattle.w32_base.specs.declared.entry.End.{End}
 use Rattle.w32_base.specs.declared.setup.Program.{Program}
 use Rattle.w32_base.specs.declared.setup.Setup.{Setup}
-use Rattle.win32_spec.specs.State.{Win32State}
-use Rattle.win32_spec.specs.Opening.{IsOpening}
-use Rattle.win32_spec.specs.Schedule.{Settle, FollowsSchedule}
+use Rattle.first_win32_spec.specs.State.{Win32State}
+use Rattle.first_win32_spec.specs.Opening.{IsOpening}
+use Rattle.first_win32_spec.specs.Schedule.{Settle, FollowsSchedule}
 
 -- From the state in which a run of the script's first program begins, the entries are steps of the Win32 machine under
 -- the directives that the schedule `settle` gives, to its end or to the budget: each entry keeps the call that was

@@ -17,8 +17,8 @@ use Rattle.w32_base.specs.declared.instr.Instr.{Instr}
 use Rattle.w32_base.specs.declared.instr.Instr.TheVariants as instr
 use Rattle.vm_spec.specs.Image.{value_of}
 use Rattle.vm_spec.specs.Step.{Upcoming, LocalInstruction, CallInstruction, ImageFault, upcoming}
-use Rattle.posix_spec.specs.Step.{is_invalid_kill, is_same_number}
-use Rattle.layer_spec.specs.Rows.{is_running_word, is_zombie_word, is_record_word, parent_of, exit_word, sealed_word, gone_word}
+use Rattle.first_posix_spec.specs.Step.{is_invalid_kill, is_same_number}
+use Rattle.first_layer_spec.specs.Rows.{is_running_word, is_zombie_word, is_record_word, parent_of, exit_word, sealed_word, gone_word}
 use Rattle.cyg_cli.specs.declared.layer.step.Step.{Step}
 use Rattle.cyg_cli.specs.declared.layer.step.Step.TheVariants as step
 use Rattle.cyg_cli.specs.declared.layer.part.ThreadPart.{ThreadPart}

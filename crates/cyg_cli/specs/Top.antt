@@ -9,10 +9,10 @@ use Rattle.w32_base.specs.declared.setup.Setup.{Setup}
 use Rattle.cyg_io.specs.Counts.{Rose, RoseBy}
 use Rattle.cyg_io.specs.Sink.{AppendsPart}
 use Rattle.first_form.specs.OneProgram.{IsOneProgram}
-use Rattle.posix_spec.specs.State.{PosixState}
-use Rattle.layer_spec.specs.FirstForm.{IsFirstForm}
-use Rattle.layer_spec.specs.LogText.{calls_log}
-use Rattle.layer_spec.specs.Headline.{Headline}
+use Rattle.first_posix_spec.specs.State.{PosixState}
+use Rattle.first_layer_spec.specs.FirstForm.{IsFirstForm}
+use Rattle.first_layer_spec.specs.LogText.{calls_log}
+use Rattle.first_layer_spec.specs.Headline.{Headline}
 use Rattle.cyg_cli.specs.RunOf.{IsRunOf}
 
 -- what a source and a sink tell: the bytes left and the bytes held, where they tell them, and their counts

@@ -6,7 +6,7 @@ use Rattle.w32_base.specs.declared.entry.End.{End}
 use Rattle.w32_base.specs.declared.setup.Setup.{Setup}
 use Rattle.cyg_io.specs.Counts.{Rose}
 use Rattle.cyg_io.specs.Sink.{AppendsPart}
-use Rattle.layer_spec.specs.LogText.{calls_log}
+use Rattle.first_layer_spec.specs.LogText.{calls_log}
 use Rattle.cyg_cli.specs.RunOf.{IsRunOf}
 use Rattle.cyg_cli.specs.World.{RunsToTheEnd}
 use Rattle.cyg_cli.specs.Top.{refusal, status_of}

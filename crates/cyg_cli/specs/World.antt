@@ -7,10 +7,10 @@ use Rattle.w32_base.specs.declared.entry.Entry.{Entry}
 use Rattle.w32_base.specs.declared.entry.End.{End}
 use Rattle.w32_base.specs.declared.setup.Program.{Program}
 use Rattle.w32_base.specs.declared.setup.Setup.{Setup}
-use Rattle.win32_spec.specs.Ready.{IsNextReady}
-use Rattle.win32_spec.specs.Opening.{IsOpening}
-use Rattle.win32_spec.specs.Schedule.{Settle, EndsBy}
-use Rattle.w32_machine.specs.Contract.{DrivenStep}
+use Rattle.first_win32_spec.specs.Ready.{IsNextReady}
+use Rattle.first_win32_spec.specs.Opening.{IsOpening}
+use Rattle.first_win32_spec.specs.Schedule.{Settle, EndsBy}
+use Rattle.first_machine.specs.Contract.{DrivenStep}
 use Rattle.cyg_cli.specs.declared.layer.step.Step.TheVariants as step
 use Rattle.cyg_cli.specs.declared.world.World.{World}
 use Rattle.cyg_cli.specs.Entries.{turn_entry}

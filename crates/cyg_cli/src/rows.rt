@@ -1,7 +1,7 @@
 //! The words of a row.
 
 ghost use Rattle.std.specs.Prelude.{◌≡◌, ◌+◌, ◌-◌, ◌*◌, ◌<◌, ◌≤◌, ◌^◌};
-ghost use Rattle.layer_spec.specs.Rows as words;
+ghost use Rattle.first_layer_spec.specs.Rows as words;
 
 /// The place of the first image's row in the section: its main word, its group word and its exit word.
 pub const FIRST_MAIN: u32 = 1;

@@ -1,10 +1,10 @@
 //! Runs of the world.
 
 ghost use Rattle.std.specs.Prelude.{◌≡◌, ◌≤◌, ◌<◌, [], ◌∷◌, true, length, vec_len, vec_capacity, IfOk};
-ghost use Rattle.win32_spec.specs.Ready.{is_ready};
-ghost use Rattle.win32_spec.specs.Schedule.{EndsBy, Settle};
+ghost use Rattle.first_win32_spec.specs.Ready.{is_ready};
+ghost use Rattle.first_win32_spec.specs.Schedule.{EndsBy, Settle};
 ghost use Rattle.std.specs.List.{AllPass};
-ghost use Rattle.layer_spec.specs.LogText.{is_built_entry};
+ghost use Rattle.first_layer_spec.specs.LogText.{is_built_entry};
 ghost use Rattle.cyg_cli.specs.RunOf.{IsRunOf};
 ghost use Rattle.cyg_cli.specs.World.{Drives, IsWorldOpening, RunsToTheEnd};
 
@@ -13,7 +13,7 @@ use crate::recorder::Recorder;
 use crate::world::{Ran, Turned, World};
 use std::alloc::{AllocError, Global};
 use w32_base::{End, Setup, Slot, ThreadNo, Whole};
-use w32_machine::{DrivenTurn, Machine};
+use first_machine::{DrivenTurn, Machine};
 
 /// Runs the script's first program until no thread is ready or the journal has as many entries as the budget. All
 /// memory is taken before the first directive.

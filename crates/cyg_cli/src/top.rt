@@ -3,7 +3,7 @@
 ghost use Rattle.std.specs.Prelude.{◌≡◌, ◌≢◌, ◌<◌, ◌≤◌, [], ◌∷◌, ◌++◌, ◌↔◌, ◌⊎◌, List, ℕ, map, codes, IsTrue, IfOk, IfSome, OnOk, OnErr, MatchResult};
 ghost use Rattle.std.specs.String.{string_bytes};
 ghost use Rattle.std.specs.List.{AllPass};
-ghost use Rattle.layer_spec.specs.LogText.{is_built_entry};
+ghost use Rattle.first_layer_spec.specs.LogText.{is_built_entry};
 ghost use Rattle.std.specs.Io.KnownBytes.{Appends};
 ghost use Rattle.cyg_io.specs.Counts.{Rose, RoseBy};
 ghost use Rattle.cyg_cli.specs.Top.{Ends, IsJournalOf, IsRead, IsRunOrShort, IsUnbuilt, refusal, run_calls, status_of as status_number};
@@ -13,7 +13,7 @@ use crate::run::run;
 use crate::world::Ran;
 use cyg_io::{ReadAllFault, Sink, Source, read_all, write_all};
 use first_form::{FirstForm, ReadError, read_first_form};
-use log_text::write_calls;
+use first_log_text::write_calls;
 use std::alloc::Global;
 use std::marker::Model;
 use w32_base::{End, Journal};

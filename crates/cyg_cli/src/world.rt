@@ -2,7 +2,7 @@
 
 use crate::layer::part::ThreadPart;
 use w32_base::{Call, End, Event, Journal, Reply};
-use w32_machine::Machine;
+use first_machine::Machine;
 
 /// The machine and the parts of its two threads.
 #[derive(Drop)]

@@ -7,7 +7,7 @@ use Rattle.std.proofs.lemmas.Option.{same_Some}
 use Rattle.w32_base.specs.declared.instr.Instr.{Instr}
 use Rattle.w32_base.specs.declared.instr.Instr.TheVariants.{GetPid, Kill, Exit}
 use Rattle.w32_base.specs.declared.instr.Operand.TheVariants.{Number}
-use Rattle.layer_spec.specs.FirstForm.{instr_line, is_first_form_instr}
+use Rattle.first_layer_spec.specs.FirstForm.{instr_line, is_first_form_instr}
 use Rattle.first_form.specs.Reading.{◌>>=◌, after, number_at, get_pid_at, kill_at, exit_at, instr_at}
 use Rattle.first_form.proofs.Words.{guard_some, after_is}
 use Rattle.first_form.proofs.Numbers.{chosen, number_spelled, number_again}

@@ -2,7 +2,7 @@
 use Rattle.std.proofs.Common.{◌≡◌, ℕ, suc, ◌+◌, ◌-◌, ◌<◌, ◌≤◌, Bool, List, [], ◌∷◌, ◌++◌, Some, None, sym, ap, ◌∙◌, append_assoc, arith}
 use Rattle.std.proofs.lemmas.List.{append-nil}
 use Rattle.w32_base.specs.declared.instr.Instr.{Instr}
-use Rattle.layer_spec.specs.FirstForm.{is_exit}
+use Rattle.first_layer_spec.specs.FirstForm.{is_exit}
 use Rattle.first_form.specs.Reading.{instr_at, code_at, ends_in_exit}
 use Rattle.first_form.proofs.Programs.{ends_at_last}
 

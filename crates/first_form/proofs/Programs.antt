@@ -5,7 +5,7 @@ use Rattle.std.proofs.lemmas.Bool.{and_parts, and_from}
 use Rattle.w32_base.specs.declared.instr.Instr.{Instr}
 use Rattle.w32_base.specs.declared.instr.Instr.TheVariants.{GetPid, Kill, Exit}
 use Rattle.w32_base.specs.Targets.{is_target_below, are_targets_below}
-use Rattle.layer_spec.specs.FirstForm.{is_first_form_instr, is_first_form_code, is_exit}
+use Rattle.first_layer_spec.specs.FirstForm.{is_first_form_instr, is_first_form_code, is_exit}
 use Rattle.first_form.specs.Reading.{ends_in_exit}
 
 pub ends_at_last : (is : List Instr) (i : Instr) → ends_in_exit (is ++ i ∷ []) ≡ is_exit i

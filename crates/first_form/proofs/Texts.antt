@@ -6,7 +6,7 @@ use Rattle.std.specs.Fmt.{decimal}
 use Rattle.std.proofs.lemmas.Bool.{and_parts, and_from, leb-true, le-leb}
 use Rattle.std.proofs.lemmas.Option.{same_Some}
 use Rattle.w32_base.specs.declared.instr.Instr.{Instr}
-use Rattle.layer_spec.specs.FirstForm.{instr_line, is_first_form_instr, script_lines, last_lines, text_of, IsFirstForm}
+use Rattle.first_layer_spec.specs.FirstForm.{instr_line, is_first_form_instr, script_lines, last_lines, text_of, IsFirstForm}
 use Rattle.first_form.specs.Reading.{◌>>=◌, after, number_at, instr_at, with_first, from_option, code_at, budget_at, ends_in_exit, is_empty, is_end, script_at}
 use Rattle.first_form.proofs.Words.{guard_some, after_is}
 use Rattle.first_form.proofs.Numbers.{number_spelled, number_again}

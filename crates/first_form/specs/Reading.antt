@@ -3,7 +3,7 @@ use Rattle.std.specs.Prelude.{ℕ, zero, suc, ◌+◌, ◌-◌, ◌*◌, pos, Bo
 use Rattle.w32_base.specs.declared.instr.Instr.{Instr}
 use Rattle.w32_base.specs.declared.instr.Instr.TheVariants.{GetPid, Kill, Exit}
 use Rattle.w32_base.specs.declared.instr.Operand.TheVariants.{Number}
-use Rattle.layer_spec.specs.FirstForm.{is_exit}
+use Rattle.first_layer_spec.specs.FirstForm.{is_exit}
 
 infixl 10 ◌>>=◌
 abbrev pub ◌>>=◌ : {A B : Type 0} → Option A → (A → Option B) → Option B

@@ -1,7 +1,7 @@
 //! The lines of a script's program.
 
 ghost use Rattle.std.specs.Prelude.{◌≡◌, option_map, IfOk};
-ghost use Rattle.layer_spec.specs.FirstForm.{is_exit};
+ghost use Rattle.first_layer_spec.specs.FirstForm.{is_exit};
 ghost use Rattle.first_form.specs.Reading.{get_pid_at, kill_at, exit_at, instr_at, code_at, ends_in_exit};
 
 use crate::number::number_at;

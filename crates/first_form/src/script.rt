@@ -2,7 +2,7 @@
 
 ghost use Rattle.std.specs.Prelude.{◌≡◌, ℕ, List, option_map, IfOk, MatchResult, Err};
 ghost use Rattle.w32_base.specs.declared.instr.Instr.{Instr};
-ghost use Rattle.layer_spec.specs.FirstForm.{IsFirstForm};
+ghost use Rattle.first_layer_spec.specs.FirstForm.{IsFirstForm};
 ghost use Rattle.first_form.specs.Reading.{budget_at, code_at, is_end, script_at};
 ghost use Rattle.first_form.specs.OneProgram.{IsOneProgram};
 

@@ -1,7 +1,7 @@
 //! What a script of the first form sets up.
 
 ghost use Rattle.std.specs.Prelude.{◌≡◌, ◌≤◌, IfOk, true, length, ◌∷◌, []};
-ghost use Rattle.layer_spec.specs.FirstForm.{is_first_form_code};
+ghost use Rattle.first_layer_spec.specs.FirstForm.{is_first_form_code};
 ghost use Rattle.first_form.specs.OneProgram.{IsMain, IsOneProgram};
 
 use std::alloc::{AllocError, Global};

@@ -1,5 +1,2 @@
 pub mod Signals
 pub mod State
-pub mod Opening
-pub mod Step
-pub mod Run

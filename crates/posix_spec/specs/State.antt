@@ -1,8 +1,16 @@
 -- The state of the POSIX machine.
-use Rattle.std.specs.Prelude.{ℕ, Bool, true, false, nat_eq, if◌then◌else◌, List, [], ◌∷◌, Option, Some, None, replicate}
+use Rattle.std.specs.Prelude.{ℕ, Bool, true, false, List, [], ◌∷◌, Option, Some, None, replicate}
+use Rattle.std.specs.Ordering.{nat_cmp}
+use Rattle.std.specs.FinMap as map
+use Rattle.std.specs.FinSet as set
 use Rattle.w32_base.specs.declared.instr.Action.{Action}
 use Rattle.w32_base.specs.declared.instr.Action.TheVariants.{Default}
 use Rattle.vm_spec.specs.Image.{Image}
+use Rattle.tty_spec.specs.Terminal.{Terminal, opening_terminal}
+
+-- a set of process numbers
+abbrev pub Numbers : Type 0
+Numbers = set.FinSet nat_cmp
 
 -- whether a process runs, was stopped by a signal, or is a zombie with a status
 pub data Life : Type 0 where
@@ -14,12 +22,12 @@ pub data Life : Type 0 where
 pub record GroupCall : Type 0 where
   pub group : ℕ
   pub signal : ℕ
-  pub members : List ℕ
+  pub members : Numbers
 
 -- the call in progress: none, a wait with the children that were looked at, or one for a group
 pub data CallInProgress : Type 0 where
   NoCall : CallInProgress
-  WaitCall : (looked_at : List ℕ) → CallInProgress
+  WaitCall : (looked_at : Numbers) → CallInProgress
   ForGroup : (call : GroupCall) → CallInProgress
 
 -- A process. `report` is 0, 1 for a stop or 2 for a continue that its parent wasn't told. `pending`, `mask`, `saved` and
@@ -45,48 +53,24 @@ pub record Record : Type 0 where
   pub lost : ℕ
   pub owed : ℕ
 
--- a process with its number
-pub record Numbered : Type 0 where
-  pub number : ℕ
-  pub process : Record
+-- the processes by their numbers
+abbrev pub Records : Type 0
+Records = map.FinMap nat_cmp Record
 
--- the terminal: foreground group, flags, the current line, the done lines and what was put out
-pub record TerminalState : Type 0 where
-  pub foreground : ℕ
-  pub flags : ℕ
-  pub line : List ℕ
-  pub ready_lines : List (List ℕ)
-  pub output : List ℕ
-
--- The whole state: the processes, each number once; the terminal; the console's call for a group; the numbers that
--- were used; the status of process 2's death; whether the host has read its code.
+-- The whole state: the processes; the terminal, and what was put out on it by writes; the console's call for a group; the
+-- numbers that were used; the status of process 2's death; whether the host has read its code.
 pub record PosixState : Type 0 where
-  pub records : List Numbered
-  pub terminal : TerminalState
+  pub records : Records
+  pub terminal : Terminal
+  pub output : List ℕ
   pub console : Option GroupCall
-  pub used : List ℕ
+  pub used : Numbers
   pub first_status : Option ℕ
   pub host_came : Bool
 
 -- the process with this number
-abbrev pub record_of : List Numbered → ℕ → Option Record
-record_of [] p = None
-record_of (x ∷ xs) p = if nat_eq x.number p then Some x.process else record_of xs p
-
--- each process but that with this number stays
-abbrev pub change_record : ℕ → (Record → Record) → List Numbered → List Numbered
-change_record p f [] = []
-change_record p f (x ∷ xs) = (if nat_eq x.number p then record x { process = f x.process } else x) ∷ change_record p f xs
-
--- without the process of this number
-abbrev pub without_record : ℕ → List Numbered → List Numbered
-without_record p [] = []
-without_record p (x ∷ xs) = if nat_eq x.number p then without_record p xs else x ∷ without_record p xs
-
--- each process is changed
-abbrev pub map_records : (Record → Record) → List Numbered → List Numbered
-map_records f [] = []
-map_records f (x ∷ xs) = record x { process = f x.process } ∷ map_records f xs
+abbrev pub record_of : PosixState → ℕ → Option Record
+record_of s p = map.get s.records p
 
 -- the first process, with this image
 unfoldable pub opening_record : Image → Record
@@ -110,16 +94,14 @@ opening_record image = record {
   owed = 0;
 }
 
-abbrev pub opening_terminal : TerminalState
-opening_terminal = record { foreground = 2; flags = 3; line = []; ready_lines = []; output = [] }
-
 -- the state in which a run begins: process 2, with the image in which it opens
 abbrev pub opening : Image → PosixState
 opening image = record {
-  records = record { number = 2; process = opening_record image } ∷ [];
+  records = map.insert map.empty 2 (opening_record image);
   terminal = opening_terminal;
+  output = [];
   console = None;
-  used = 2 ∷ [];
+  used = set.insert set.empty 2;
   first_status = None;
   host_came = false;
 }

@@ -2,16 +2,9 @@
 use Rattle.std.specs.Prelude.{ℕ, List, Option}
 use Rattle.w32_base.specs.declared.call.Call.{Call}
 use Rattle.w32_base.specs.declared.own.Own.{Own}
+use Rattle.tty_spec.specs.Terminal.{Terminal}
 use Rattle.win32_spec.specs.Handles.{Handle}
 use Rattle.win32_spec.specs.Objects.{EventState, Ownership}
-
--- the terminal: foreground group, session, flags, the current line, the done lines, each with its end
-pub record Terminal : Type 0 where
-  pub foreground : ℕ
-  pub session : ℕ
-  pub flags : ℕ
-  pub line : List ℕ
-  pub ready_lines : List (List ℕ)
 
 -- an object
 pub data Object : Type 0 where

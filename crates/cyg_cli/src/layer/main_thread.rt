@@ -6,7 +6,7 @@ ghost use Rattle.w32_base.specs.declared.own.Own.{Own};
 ghost use Rattle.vm_spec.specs.Image.{image_of};
 ghost use Rattle.vm_spec.specs.Step.{low_byte as low_byte_of};
 ghost use Rattle.proc_vm.specs.Shown.{shown};
-ghost use Rattle.posix_spec.specs.Step.{is_invalid_kill};
+ghost use Rattle.first_posix_spec.specs.Step.{is_invalid_kill};
 ghost use Rattle.cyg_cli.specs.Layer.{Did, answers, finds_target, checks_target, begins_kill, goes_on, acts, looked, checked, wrote_exit, to_seal, tried_seal, found_parent, tried_gather, main_after};
 
 use crate::layer::step::Step;

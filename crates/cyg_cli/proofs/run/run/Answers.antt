@@ -1,5 +1,5 @@
 use Rattle.std.proofs.Common.{◌≡◌, ◌∷◌, [], ap, length, subst, sym, arith, ℕ}
-use Rattle.win32_spec.specs.Schedule.{EndsBy, Settle}
+use Rattle.first_win32_spec.specs.Schedule.{EndsBy, Settle}
 use Rattle.w32_base.specs.declared.entry.End.TheVariants.{Quiet}
 use Rattle.cyg_cli.specs.World.{RunsToTheEnd}
 use Rattle.cyg_cli.proofs.Schedules.{run_of}

@@ -1,6 +1,6 @@
 use Rattle.std.proofs.Common.{◌≡◌, refl, sym, ◌∙◌, ap, subst, inl, inr, Err}
 use Rattle.first_form.specs.declared.error.ReadError.TheVariants.{Unbuilt, Memory}
-use Rattle.layer_spec.specs.FirstForm.{IsFirstForm}
+use Rattle.first_layer_spec.specs.FirstForm.{IsFirstForm}
 use Rattle.cyg_cli.specs.Top.{IsUnbuilt}
 use Rattle.cyg_cli.proofs.Ends.{of_left, too_long, refusal_ends, logging_ends}
 use Rattle.cyg_cli.proofs.top.carry_out.Goals as goal

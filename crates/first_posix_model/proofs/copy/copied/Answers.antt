@@ -1,0 +1,21 @@
+use Rattle.std.proofs.Common.{◌≡◌, ℕ, ◌+◌, ◌<◌, List, length, take, refl, ◌∙◌, ap, arith, inl, inr}
+use Rattle.std.specs.Prelude.{slice_get}
+use Rattle.std.proofs.lemmas.List.{take_more}
+use Rattle.std.proofs.lemmas.Option.{slice_get_cases}
+use Rattle.w32_base.specs.declared.instr.Instr.{Instr}
+use Rattle.first_posix_model.specs.Copies.{added}
+use Rattle.first_posix_model.proofs.copy.copied.Goals as goal
+
+-- the copy of k instructions with the next one is that of k + 1
+take_next : (code : List Instr) (k : ℕ) → k < length code → added (take k code) (slice_get code k) ≡ take (k + 1) code
+take_next code k h =
+    elim (slice_get_cases code k).1 [
+      | inl (x, within, is, at) ↦ rw is (rw (take_more code k x within, at) refl)
+      | inr (past, none) ↦ absurd (omega arith)
+    ]
+
+pub loop-place-preserved : goal.loop-place-preserved
+loop-place-preserved c =
+    let code : List Instr = c.args.program.now.code in
+    c.in_ok-add.ensures ∙ ap (λ o. added c.loop-place.code.items o) c.get.ensures
+    ∙ ap (λ xs. added xs (slice_get code c.loop-place.place)) c.loop-place.invariant ∙ take_next code c.loop-place.place (omega arith)

@@ -1,0 +1,5 @@
+pub mod Signals
+pub mod State
+pub mod Opening
+pub mod Step
+pub mod Run

@@ -1,0 +1,10 @@
+pub mod Handles
+pub mod Objects
+pub mod Regions
+pub mod State
+pub mod Lookup
+pub mod Ready
+pub mod Call
+pub mod Run
+pub mod Opening
+pub mod Schedule
