@@ -11,9 +11,9 @@ ghost use Rattle.cyg_cli.specs.World.{Drives, IsWorldOpening, RunsToTheEnd};
 use crate::layer::part::ThreadPart;
 use crate::recorder::Recorder;
 use crate::world::{Ran, Turned, World};
+use first_machine::{DrivenTurn, Machine};
 use std::alloc::{AllocError, Global};
 use w32_base::{End, Setup, Slot, ThreadNo, Whole};
-use first_machine::{DrivenTurn, Machine};
 
 /// Runs the script's first program until no thread is ready or the journal has as many entries as the budget. All
 /// memory is taken before the first directive.

@@ -1,8 +1,8 @@
 //! The world: the machine with the parts of its threads, and the journal.
 
 use crate::layer::part::ThreadPart;
-use w32_base::{Call, End, Event, Journal, Reply};
 use first_machine::Machine;
+use w32_base::{Call, End, Event, Journal, Reply};
 
 /// The machine and the parts of its two threads.
 #[derive(Drop)]
