@@ -1,5 +1,5 @@
 use Rattle.std.proofs.Common.{rules}
-use Rattle.vm_spec.proofs.WordLemmas.{with_word-wrapped}
+use Rattle.vm_spec.specs.WordLaws.{with_word-wrapped}
 use Rattle.proc_vm.proofs.writers.set_in_use.Goals as goal
 
 pub returns-clause-value : goal.returns-clause-value
