@@ -37,7 +37,7 @@ use Rattle.cyg_cli.specs.declared.layer.step.Step.TheVariants as step
 use Rattle.cyg_cli.specs.Entries.{turn_entry}
 use Rattle.cyg_cli.specs.Layer.{Did, goes_to, posted_at, first_code, can_take, answers, finds_target, begins_kill, goes_on, checked, main_after}
 use Rattle.cyg_cli.specs.ThreadPart.{call_of, Goes}
-use Rattle.cyg_cli.proofs.Bytes.{length-with_word, word_at-with_word, word_at-with_word_same}
+use Rattle.vm_spec.specs.WordLaws.{length-with_word, word_at-with_word, word_at-with_word_above}
 use Rattle.cyg_cli.proofs.Codes.{IsAhead, InstrAt, ahead_below, instr_ahead, ahead_on, call_ahead}
 use Rattle.cyg_cli.proofs.Seats.{AreObjects, state_at, layer_at, main_part, MainWent, main_loads, main_exchanges, main_leaves}
 use Rattle.cyg_cli.proofs.Shapes.{Stage, Runs, Died, Left, Shape, words_at, machine_at, posix_at, IsFirst, ExitsNext, MainAt, StarterAt, IsSmall, Fits, main_turns, starter_turns, left_in, turns_left}
@@ -161,8 +161,8 @@ place_follows x z =
     let size : length own.dat ≡ 64 = x.first.sized in
     let moved : length (moved_on (image_of own)).dat ≡ length own.dat = length-with_word own.dat 32 (place + 1) (omega arith) in
     let now : place_of (image_of (answered_own x z)) ≡ place + 1 =
-    word_at-with_word (moved_on (image_of own)).dat 0 (cast_unsigned w32 z) 32 (omega arith) (omega arith)
-    ∙ word_at-with_word_same own.dat 32 (place + 1) (omega arith) (omega arith) in
+    word_at-with_word_above (moved_on (image_of own)).dat 0 (cast_unsigned w32 z) 32 (omega arith) (omega arith)
+    ∙ word_at-with_word own.dat 32 (place + 1) (omega arith) (omega arith) in
     omega (arith, now)
 
 -- the memory after a result
@@ -177,10 +177,10 @@ first_answered x z past =
     let after : IsAhead (code_in x) (suc place) = ahead_on (code_in x) place coming.it coming.found (past coming.it coming.next) f.ahead in
     record {
       sized = length-with_word (moved_on (image_of own)).dat 0 (cast_unsigned w32 z) (omega arith) ∙ moved ∙ size;
-      program = word_at-with_word (moved_on (image_of own)).dat 0 (cast_unsigned w32 z) 40 (omega arith) (omega arith)
-          ∙ word_at-with_word own.dat 32 (place + 1) 40 (omega arith) (omega arith) ∙ f.program;
-      empty = word_at-with_word (moved_on (image_of own)).dat 0 (cast_unsigned w32 z) 36 (omega arith) (omega arith)
-          ∙ word_at-with_word own.dat 32 (place + 1) 36 (omega arith) (omega arith) ∙ f.empty;
+      program = word_at-with_word_above (moved_on (image_of own)).dat 0 (cast_unsigned w32 z) 40 (omega arith) (omega arith)
+          ∙ word_at-with_word_above own.dat 32 (place + 1) 40 (omega arith) (omega arith) ∙ f.program;
+      empty = word_at-with_word_above (moved_on (image_of own)).dat 0 (cast_unsigned w32 z) 36 (omega arith) (omega arith)
+          ∙ word_at-with_word_above own.dat 32 (place + 1) 36 (omega arith) (omega arith) ∙ f.empty;
       cyg = f.cyg;
       ahead = subst (λ n. IsAhead (code_in x) n) (sym (place_follows x z)) after;
     }

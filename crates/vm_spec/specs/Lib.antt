@@ -5,3 +5,7 @@ pub mod Block
 pub mod Frames
 pub mod NewImage
 pub mod WordLaws
+pub mod BlockLaws
+pub mod SizeLaws
+pub mod StepLaws
+pub mod FrameLaws
