@@ -8,7 +8,8 @@ use Rattle.vm_spec.specs.Step.{Upcoming, LocalInstruction, CallInstruction, Imag
 use Rattle.vm_spec.specs.Block.{is_local_next, block_within, block_length, block_image}
 
 -- the first instruction of one more than n stands before the n others
-pub block_of-first : (n : ℕ) (code : List Instr) (image : Image) → block_of n code (local_step code image) ≡ block_of (suc n) code image
+pub block_of-first : (n : ℕ) (code : List Instr) (image : Image) →
+    block_of n code (local_step code image) ≡ block_of (suc n) code image
 unfolding block_of
 block_of-first zero code image = refl
 block_of-first (suc n) code image = ap (local_step code) (block_of-first n code image)
@@ -28,7 +29,8 @@ record IsBlockWithin (bound : ℕ) (code : List Instr) (image : Image) (n : ℕ)
   local : (k : ℕ) → k < n → upcoming code (block_of k code image) ≡ LocalInstruction
   ended : n < bound → upcoming code (block_of n code image) ≢ LocalInstruction
 
-none_local : (most : ℕ) (code : List Instr) (image : Image) → is_local_next (upcoming code image) ≡ false → IsBlockWithin (suc most) code image 0
+none_local : (most : ℕ) (code : List Instr) (image : Image) → is_local_next (upcoming code image) ≡ false →
+    IsBlockWithin (suc most) code image 0
 unfolding block_of
 none_local most code image h = record {
   most = omega arith;
@@ -42,7 +44,8 @@ local_before : (n : ℕ) (code : List Instr) (image : Image) → is_local_next (
     (k : ℕ) → k < suc n → upcoming code (block_of k code image) ≡ LocalInstruction
 unfolding block_of
 local_before n code image h rest zero l = local_next (upcoming code image) h
-local_before n code image h rest (suc k) l = ap (upcoming code) (sym (block_of-first k code image)) ∙ rest k (omega arith)
+local_before n code image h rest (suc k) l =
+    ap (upcoming code) (sym (block_of-first k code image)) ∙ rest k (omega arith)
 
 one_local : (most n : ℕ) (code : List Instr) (image : Image) → is_local_next (upcoming code image) ≡ true →
     IsBlockWithin most code (local_step code image) n → IsBlockWithin (suc most) code image (suc n)
@@ -52,7 +55,8 @@ one_local most n code image h rest = record {
   ended = λ l e. rest.ended (omega arith) (ap (upcoming code) (block_of-first n code image) ∙ e);
 }
 
-is_block_within : (most : ℕ) (code : List Instr) (image : Image) → IsBlockWithin most code image (block_within most code image)
+is_block_within : (most : ℕ) (code : List Instr) (image : Image) →
+    IsBlockWithin most code image (block_within most code image)
 unfolding block_within
 is_block_within zero code image = record {
   most = omega arith;
@@ -62,7 +66,8 @@ is_block_within zero code image = record {
 is_block_within (suc most) code image =
     cond_both (is_local_next (upcoming code image)) (suc (block_within most code (local_step code image))) 0
     (λ n. IsBlockWithin (suc most) code image n)
-    (λ h. one_local most (block_within most code (local_step code image)) code image h (is_block_within most code (local_step code image)))
+    (λ h. one_local most (block_within most code (local_step code image)) code image h
+    (is_block_within most code (local_step code image)))
     (none_local most code image)
 
 -- the block has this length
@@ -78,11 +83,16 @@ not_shorter code image m n p q l =
     p.ended short (q.local m l)
 
 -- a block has one length
-pub IsBlock-unique : (code : List Instr) (image : Image) (m n : ℕ) → IsBlock code image m → IsBlock code image n → m ≡ n
+pub IsBlock-unique : (code : List Instr) (image : Image) (m n : ℕ) → IsBlock code image m → IsBlock code image n →
+    m ≡ n
 IsBlock-unique code image m n p q =
     elim (cases_order m n) [
       | inl e ↦ e
-      | inr other ↦ elim other [ inl l ↦ absurd (not_shorter code image m n p q l) | inr l ↦ absurd (not_shorter code image n m q p l) ]
+      | inr other ↦ elim other [
+        | inl l ↦ absurd (not_shorter code image m n p q l)
+        | inr l ↦ absurd
+            (not_shorter code image n m q p l)
+      ]
     ]
 
 pub IsBlock-iff : (code : List Instr) (image : Image) (n : ℕ) → IsBlock code image n ↔ (n ≡ block_length code image)
@@ -92,18 +102,27 @@ IsBlock-iff code image n = (
 )
 
 -- the image after a block of n instructions
-pub IsBlock-image : (code : List Instr) (image : Image) (n : ℕ) → IsBlock code image n → block_of n code image ≡ block_image code image
+pub IsBlock-image : (code : List Instr) (image : Image) (n : ℕ) → IsBlock code image n →
+    block_of n code image ≡ block_image code image
 unfolding block_image
 IsBlock-image code image n h =
-    ap (λ k. block_of k code image) (IsBlock-unique code image n (block_length code image) h (IsBlock-length code image))
+    ap (λ k. block_of k code image)
+    (IsBlock-unique code image n (block_length code image) h (IsBlock-length code image))
 
 -- a block has an instruction exactly where the next is a local one
-pub block_length-pos : (code : List Instr) (image : Image) → upcoming code image ≡ LocalInstruction → 0 < block_length code image
+pub block_length-pos : (code : List Instr) (image : Image) → upcoming code image ≡ LocalInstruction →
+    0 < block_length code image
 unfolding block_length block_within
 block_length-pos code image e = rw e (omega arith)
 
-pub block_length-zero : (code : List Instr) (image : Image) → upcoming code image ≢ LocalInstruction → block_length code image ≡ 0
+pub block_length-zero : (code : List Instr) (image : Image) → upcoming code image ≢ LocalInstruction →
+    block_length code image ≡ 0
 unfolding block_of
 block_length-zero code image h =
-    let none : IsBlock code image 0 = record { most = omega arith; local = λ k l. absurd (omega arith); ended = λ l. h } in
+    let none : IsBlock code image 0 = record {
+      most = omega arith;
+      local = λ k l. absurd
+          (omega arith);
+      ended = λ l. h;
+    } in
     IsBlock-unique code image (block_length code image) 0 (IsBlock-length code image) none

@@ -33,16 +33,20 @@ SameSizes-with_frame image mask handler h fits =
     let pushed : Image = record image { stack = stack_with_frame image mask } in
     let same : SameSizes image pushed = record { dat = refl; heap = refl; stack = length-stack_with_frame image mask h fits } in
     let placed : SameSizes pushed (at_place pushed handler) = SameSizes-word pushed 32 handler h (omega arith) in
-    SameSizes-trans same (SameSizes-trans placed (SameSizes-word (at_place pushed handler) 36 (in_use image + 40) (placed.dat ∙ h) (omega arith)))
+    SameSizes-trans same
+    (SameSizes-trans placed
+    (SameSizes-word (at_place pushed handler) 36 (in_use image + 40) (placed.dat ∙ h) (omega arith)))
 
-pub length-data_from_frame : (image : Image) → length image.dat ≡ 64 → in_use image ≤ length image.stack → has_frame image ≡ true →
+pub length-data_from_frame : (image : Image) → length image.dat ≡ 64 → in_use image ≤ length image.stack →
+    has_frame image ≡ true →
     length (data_from_frame image) ≡ 64
 unfolding data_from_frame
 length-data_from_frame image h within framed =
     let used : 40 ≤ in_use image = leb-true 40 (in_use image) framed in
     simp (length-append, length-take, length-drop) (omega arith)
 
-pub SameSizes-without_frame : (image : Image) → length image.dat ≡ 64 → in_use image ≤ length image.stack → has_frame image ≡ true →
+pub SameSizes-without_frame : (image : Image) → length image.dat ≡ 64 → in_use image ≤ length image.stack →
+    has_frame image ≡ true →
     SameSizes image (without_frame image)
 SameSizes-without_frame image h within framed =
     let popped : Image = record image { dat = data_from_frame image } in
@@ -54,12 +58,14 @@ SameSizes-without_frame image h within framed =
 pub in_use-with_frame : (image : Image) (mask handler : ℕ) → length image.dat ≡ 64 → in_use image + 40 < 2 ^ 32 →
     in_use (with_frame image mask handler) ≡ in_use image + 40
 in_use-with_frame image mask handler h fits =
-    word_at-with_word (with_word image.dat 32 handler) 36 (in_use image + 40) (omega (arith, length-with_word image.dat 32 handler (omega arith))) fits
+    word_at-with_word (with_word image.dat 32 handler) 36 (in_use image + 40)
+    (omega (arith, length-with_word image.dat 32 handler (omega arith))) fits
 
 pub place_of-with_frame : (image : Image) (mask handler : ℕ) → length image.dat ≡ 64 → handler < 2 ^ 32 →
     place_of (with_frame image mask handler) ≡ handler
 place_of-with_frame image mask handler h fits =
-    word_at-with_word_below (with_word image.dat 32 handler) 36 (in_use image + 40) 32 (omega (arith, length-with_word image.dat 32 handler (omega arith))) (omega arith)
+    word_at-with_word_below (with_word image.dat 32 handler) 36 (in_use image + 40) 32
+    (omega (arith, length-with_word image.dat 32 handler (omega arith))) (omega arith)
     ∙ word_at-with_word image.dat 32 handler (omega arith) fits
 
 -- the registers stay as they are
@@ -67,7 +73,8 @@ pub register_of-with_frame : (image : Image) (mask handler r : ℕ) → length i
     register_of (with_frame image mask handler) r ≡ register_of image r
 register_of-with_frame image mask handler r h l =
     ap (cast_signed w32)
-    (word_at-with_word_below (with_word image.dat 32 handler) 36 (in_use image + 40) (4 * r) (omega (arith, length-with_word image.dat 32 handler (omega arith))) (omega arith)
+    (word_at-with_word_below (with_word image.dat 32 handler) 36 (in_use image + 40) (4 * r)
+    (omega (arith, length-with_word image.dat 32 handler (omega arith))) (omega arith)
     ∙ word_at-with_word_below image.dat 32 handler (4 * r) (omega arith) (omega arith))
 
 -- so a frame is there, and its mask is the one that was pushed
@@ -82,15 +89,19 @@ drop-stack_with_frame : (image : Image) (mask : ℕ) → has_frame_room image �
 unfolding stack_with_frame
 drop-stack_with_frame image mask fits =
     let r = room image fits in
-    ap (λ xs. drop (in_use image) xs) (append_assoc (take (in_use image) image.stack) (frame_bytes image mask) (drop (in_use image + 40) image.stack))
-    ∙ drop_at (take (in_use image) image.stack) (frame_bytes image mask ++ drop (in_use image + 40) image.stack) (in_use image)
+    ap (λ xs. drop (in_use image) xs)
+    (append_assoc (take (in_use image) image.stack) (frame_bytes image mask)
+    (drop (in_use image + 40) image.stack))
+    ∙ drop_at (take (in_use image) image.stack) (frame_bytes image mask ++ drop (in_use image + 40) image.stack)
+    (in_use image)
     (length-take-le (in_use image) image.stack (omega arith))
 
 word_at-further : (xs : List ℕ) (n m : ℕ) → word_at xs (n + m) ≡ word_at (drop n xs) m
 unfolding word_at
 word_at-further xs n m = ap (λ ys. from_le_bytes w32 (take 4 ys)) (sym (drop-drop m n xs))
 
-mask_in_bytes : (image : Image) (mask : ℕ) (rest : List ℕ) → length image.dat ≡ 64 → mask < 2 ^ 32 → word_at (frame_bytes image mask ++ rest) 36 ≡ mask
+mask_in_bytes : (image : Image) (mask : ℕ) (rest : List ℕ) → length image.dat ≡ 64 → mask < 2 ^ 32 →
+    word_at (frame_bytes image mask ++ rest) 36 ≡ mask
 unfolding word_at frame_bytes
 mask_in_bytes image mask rest h fits =
     let front : length (take 36 image.dat) ≡ 36 = length-take-le 36 image.dat (omega arith) in
@@ -99,11 +110,13 @@ mask_in_bytes image mask rest h fits =
     ∙ drop_at (take 36 image.dat) (to_le_bytes w32 mask ++ rest) 36 front)
     ∙ from_le_bytes-to_le_bytes_4 mask fits
 
-pub frame_mask-with_frame : (image : Image) (mask handler : ℕ) → length image.dat ≡ 64 → length image.stack < 2 ^ 32 → has_frame_room image ≡ true → mask < 2 ^ 32 →
+pub frame_mask-with_frame : (image : Image) (mask handler : ℕ) → length image.dat ≡ 64 →
+    length image.stack < 2 ^ 32 → has_frame_room image ≡ true → mask < 2 ^ 32 →
     frame_mask (with_frame image mask handler) ≡ mask
 frame_mask-with_frame image mask handler h small fits masked =
     let r = room image fits in
-    let used : in_use (with_frame image mask handler) - 4 ≡ in_use image + 36 = omega (arith, in_use-with_frame image mask handler h (omega arith)) in
+    let used : in_use (with_frame image mask handler) - 4 ≡ in_use image + 36 = omega
+    (arith, in_use-with_frame image mask handler h (omega arith)) in
     ap (λ k. word_at (stack_with_frame image mask) k) used
     ∙ word_at-further (stack_with_frame image mask) (in_use image) 36
     ∙ ap (λ xs. word_at xs 36) (drop-stack_with_frame image mask fits)

@@ -35,7 +35,7 @@ frame_mask image = word_at image.stack (in_use image - 4)
 unfoldable pub data_from_frame : Image → List ℕ
 data_from_frame image = take 36 (drop (in_use image - 40) image.stack) ++ drop 36 image.dat
 
--- The image with that frame popped: its registers and its next place come back, and 40 fewer bytes are in use. The bytes
--- of the stack stay.
+-- The image with that frame popped: its registers and its next place come back, and 40 fewer bytes are in use.
+-- The bytes of the stack stay.
 abbrev pub without_frame : Image → Image
 without_frame image = with_in_use (record image { dat = data_from_frame image }) (in_use image - 40)

@@ -31,54 +31,66 @@ pub SameSizes-word : (image : Image) (place number : ℕ) → length image.dat �
 SameSizes-word image place number h l =
     record { dat = length-with_word image.dat place number (omega arith); heap = refl; stack = refl }
 
-pub SameSizes-register : (image : Image) (r : ℕ) (number : ℤ) → length image.dat ≡ 64 → r < 8 → SameSizes image (with_register image r number)
+pub SameSizes-register : (image : Image) (r : ℕ) (number : ℤ) → length image.dat ≡ 64 → r < 8 →
+    SameSizes image (with_register image r number)
 SameSizes-register image r number h l = SameSizes-word image (4 * r) (cast_unsigned w32 number) h (omega arith)
 
 pub SameSizes-moved_on : (image : Image) → length image.dat ≡ 64 → SameSizes image (moved_on image)
 SameSizes-moved_on image h = SameSizes-word image 32 (place_of image + 1) h (omega arith)
 
 -- a register that is written after the place or the bytes in use
-then_register : (image next : Image) (r : ℕ) (number : ℤ) → length image.dat ≡ 64 → nat_lt r 8 ≡ true → SameSizes image next →
+then_register : (image next : Image) (r : ℕ) (number : ℤ) → length image.dat ≡ 64 → nat_lt r 8 ≡ true →
+    SameSizes image next →
     SameSizes image (with_register next r number)
 then_register image next r number h l s =
     SameSizes-trans s (SameSizes-register next r number (s.dat ∙ h) (ltb-true r 8 l))
 
-pub SameSizes-with_result : (image : Image) (r0 : ℤ) (r1 : Option ℤ) → length image.dat ≡ 64 → SameSizes image (with_result image r0 r1)
+pub SameSizes-with_result : (image : Image) (r0 : ℤ) (r1 : Option ℤ) → length image.dat ≡ 64 →
+    SameSizes image (with_result image r0 r1)
 SameSizes-with_result image r0 None h = then_register image (moved_on image) 0 r0 h refl (SameSizes-moved_on image h)
 SameSizes-with_result image r0 (Some r1) h =
     then_register image (with_register (moved_on image) 0 r0) 1 r1 h refl
     (then_register image (moved_on image) 0 r0 h refl (SameSizes-moved_on image h))
 
-jumped : (image : Image) (b : Bool) (n : ℕ) → length image.dat ≡ 64 → SameSizes image (if b then at_place image n else moved_on image)
+jumped : (image : Image) (b : Bool) (n : ℕ) → length image.dat ≡ 64 →
+    SameSizes image (if b then at_place image n else moved_on image)
 jumped image b n h =
-    cond_both b (at_place image n) (moved_on image) (λ i. SameSizes image i) (λ e. SameSizes-word image 32 n h (omega arith)) (λ e. SameSizes-moved_on image h)
+    cond_both b (at_place image n) (moved_on image) (λ i. SameSizes image i)
+    (λ e. SameSizes-word image 32 n h (omega arith)) (λ e. SameSizes-moved_on image h)
 
 -- a local instruction that doesn't fault keeps the sizes
-pub SameSizes-after_local : (i : Instr) (image : Image) → length image.dat ≡ 64 → writes_register i ≡ true → instr_faults i image ≡ false →
+pub SameSizes-after_local : (i : Instr) (image : Image) → length image.dat ≡ 64 → writes_register i ≡ true →
+    instr_faults i image ≡ false →
     SameSizes image (after_local i image)
 SameSizes-after_local (instr.Set r v) image h w f =
     then_register image (moved_on image) r (value_of image v) h w (SameSizes-moved_on image h)
 SameSizes-after_local (instr.Add r v) image h w f =
-    then_register image (moved_on image) r (int_wrap w32 (register_of image r +ℤ value_of image v)) h w (SameSizes-moved_on image h)
+    then_register image (moved_on image) r (int_wrap w32 (register_of image r +ℤ value_of image v)) h w
+    (SameSizes-moved_on image h)
 SameSizes-after_local (instr.Load r address) image h w f =
-    then_register image (moved_on image) r (pos (slice_index image.heap (address_of (value_of image address)))) h w (SameSizes-moved_on image h)
+    then_register image (moved_on image) r (pos (slice_index image.heap (address_of (value_of image address)))) h w
+    (SameSizes-moved_on image h)
 SameSizes-after_local (instr.Store address v) image h w f = record {
   dat = length-with_word image.dat 32 (place_of image + 1) (omega arith);
   heap = length-set image.heap (address_of (value_of image address)) (low_byte (value_of image v));
   stack = refl;
 }
 SameSizes-after_local (instr.Push v) image h w f =
-    let moved : length (moved_on image).dat ≡ length image.dat = length-with_word image.dat 32 (place_of image + 1) (omega arith) in
+    let moved : length (moved_on image).dat ≡ length image.dat = length-with_word image.dat 32 (place_of image + 1)
+    (omega arith) in
     record {
       dat = length-with_word (moved_on image).dat 36 (in_use image + 4) (omega arith) ∙ moved;
       heap = refl;
-      stack = length-with_word image.stack (in_use image) (cast_unsigned w32 (value_of image v)) (ltb-false (length image.stack) (in_use image + 4) f);
+      stack =
+          length-with_word image.stack (in_use image) (cast_unsigned w32 (value_of image v))
+          (ltb-false (length image.stack) (in_use image + 4) f);
     }
 SameSizes-after_local (instr.Pop r) image h w f =
     let moved : SameSizes image (moved_on image) = SameSizes-moved_on image h in
     let fewer : SameSizes image (with_in_use (moved_on image) (in_use image - 4)) =
     SameSizes-trans moved (SameSizes-word (moved_on image) 36 (in_use image - 4) (moved.dat ∙ h) (omega arith)) in
-    then_register image (with_in_use (moved_on image) (in_use image - 4)) r (cast_signed w32 (word_at image.stack (in_use image - 4))) h w fewer
+    then_register image (with_in_use (moved_on image) (in_use image - 4)) r
+    (cast_signed w32 (word_at image.stack (in_use image - 4))) h w fewer
 SameSizes-after_local (instr.Jump n) image h w f = SameSizes-word image 32 n h (omega arith)
 SameSizes-after_local (instr.JumpZero v n) image h w f = jumped image (is_zero (value_of image v)) n h
 SameSizes-after_local (instr.JumpNegative v n) image h w f = jumped image (is_below_zero (value_of image v)) n h
