@@ -6,3 +6,4 @@ pub mod Events
 pub mod Output
 pub mod Views
 pub mod EventsText
+pub mod EventCases
