@@ -1,2 +1,4 @@
 pub mod Terminal
 pub mod Discipline
+pub mod TerminalLaws
+pub mod TerminalCases
