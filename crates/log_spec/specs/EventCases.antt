@@ -54,7 +54,7 @@ key_directive_text : directive_text (directive.Key 10) ≡ codes "key 0a"
 key_directive_text = refl
 
 kill_text : event_text (event.Kill 2 (negsuc 2147483647) (pos 4294967295) (answer.Error errno.EINVAL))
-  ≡ codes "kill 2 -2147483648 4294967295 EINVAL"
+    ≡ codes "kill 2 -2147483648 4294967295 EINVAL"
 unfolding digits
 kill_text = refl
 
@@ -62,11 +62,13 @@ get_text : event_text (event.Get 4001 field.Foreground (pos 0)) ≡ codes "get 4
 unfolding digits
 get_text = refl
 
-placed_text : event_text (event.ForkFail 2 (fork.Placed (codes "core") (pos 0) (pos 10))) ≡ codes "forkfail 2 placed core 0 10"
+placed_text : event_text (event.ForkFail 2 (fork.Placed (codes "core") (pos 0) (pos 10)))
+    ≡ codes "forkfail 2 placed core 0 10"
 unfolding digits
 placed_text = refl
 
-handler_text : event_text (event.SetAction 2 (pos 17) (action.Handler (pos 9) true)) ≡ codes "action 2 17 handler 9 restart"
+handler_text : event_text (event.SetAction 2 (pos 17) (action.Handler (pos 9) true))
+    ≡ codes "action 2 17 handler 9 restart"
 unfolding digits
 handler_text = refl
 

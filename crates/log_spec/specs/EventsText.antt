@@ -33,9 +33,9 @@ lines_text lines = flat_map line lines
 abbrev pub is_one_line : List ℕ → Bool
 is_one_line text = list_all (λ byte. not (nat_eq byte 10)) text
 
--- The bytes are no text of the view, and this is the first line that isn't in one; lines count from 1. A text begins with
--- the lines before it, and none with one line more: it isn't the text's next line, or it has no end. Where the bytes end
--- there, the text's last line is wanting.
+-- The bytes are no text of the view, and this is the first line that isn't in one; lines count from 1. A text begins
+-- with the lines before it, and none with one line more, since that line doesn't fit there or has no end. Where the
+-- bytes end with the lines before it, it is the text's last line that is wanting.
 pub record IsLogFault (script : Script) (bytes : List ℕ) (number : ℕ) : Type 0 where
   pub lines : List (List ℕ)
   pub rest : List ℕ

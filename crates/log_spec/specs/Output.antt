@@ -41,4 +41,5 @@ shown_by terminal o _ = []
 abbrev pub output_from : Terminal → List Entry → List ℕ
 output_from terminal [] = []
 output_from terminal (entry ∷ entries) =
-    shown_by terminal entry.outcome entry.event ++ output_from (terminal_after terminal entry.call entry.outcome) entries
+    shown_by terminal entry.outcome entry.event ++
+    output_from (terminal_after terminal entry.call entry.outcome) entries

@@ -2,8 +2,8 @@
 use Rattle.std.specs.Prelude.{ℕ, Bool, not, nat_eq, nat_lt, if◌then◌else◌, List, [], ◌∷◌, ◌++◌, length, take, drop, Option, Some, None, bit_and}
 use Rattle.tty_spec.specs.Terminal.{Terminal}
 
--- The flags, each a bit of the terminal's flags. ISIG: signal keys give signals. ECHO: keys are echoed. NOFLSH: a signal
--- key drops no lines. TOSTOP: a background group may not write.
+-- The flags, each a bit of the terminal's flags. ISIG: signal keys give signals. ECHO: keys are echoed. NOFLSH: a
+-- signal key drops no lines. TOSTOP: a background group may not write.
 abbrev pub isig_flag : ℕ
 isig_flag = 1
 
@@ -72,7 +72,8 @@ killing terminal = echoing terminal (10 ∷ []) (record terminal { line = [] })
 abbrev pub with_done_line : Terminal → List ℕ → Terminal
 with_done_line terminal bytes = record terminal { line = []; done_lines = terminal.done_lines ++ bytes ∷ [] }
 
--- EOF (without a byte) and NL (with its byte, which is echoed) end the current line; with 16 done lines they are dropped
+-- EOF ends the current line without a byte; NL ends it with its byte, which is echoed. With 16 done lines both keys are
+-- dropped.
 abbrev pub ending : Terminal → List ℕ → KeyTaken
 ending terminal bytes =
     if nat_lt (length terminal.done_lines) most_done_lines

@@ -50,10 +50,12 @@ newline_16_ends : after_key (terminal_with 3 [] (replicate 15 (10 ∷ []))) 10 �
 newline_16_ends = refl
 
 -- EOF ends a line without a byte, an empty one too, and echoes nothing.
-eof_ends : after_key (terminal_with 3 abc []) 4 ≡ record { terminal = terminal_with 3 [] (abc ∷ []); echo = []; signal = None }
+eof_ends : after_key (terminal_with 3 abc []) 4
+    ≡ record { terminal = terminal_with 3 [] (abc ∷ []); echo = []; signal = None }
 eof_ends = refl
 
-eof_on_empty_line : after_key opening_terminal 4 ≡ record { terminal = terminal_with 3 [] ([] ∷ []); echo = []; signal = None }
+eof_on_empty_line : after_key opening_terminal 4
+    ≡ record { terminal = terminal_with 3 [] ([] ∷ []); echo = []; signal = None }
 eof_on_empty_line = refl
 
 -- ERASE drops the last byte; on an empty line nothing happens, even with a done line before it.
@@ -66,10 +68,12 @@ erase_on_empty_line : after_key (terminal_with 3 [] (abc ∷ [])) 127 ≡
 erase_on_empty_line = refl
 
 -- KILL drops the line and echoes a newline, on an empty line too.
-kill_drops : after_key (terminal_with 3 abc []) 21 ≡ record { terminal = terminal_with 3 [] []; echo = 10 ∷ []; signal = None }
+kill_drops : after_key (terminal_with 3 abc []) 21
+    ≡ record { terminal = terminal_with 3 [] []; echo = 10 ∷ []; signal = None }
 kill_drops = refl
 
-kill_on_empty_line : after_key opening_terminal 21 ≡ record { terminal = opening_terminal; echo = 10 ∷ []; signal = None }
+kill_on_empty_line : after_key opening_terminal 21
+    ≡ record { terminal = opening_terminal; echo = 10 ∷ []; signal = None }
 kill_on_empty_line = refl
 
 -- INTR, QUIT and SUSP give signals where ISIG is set; NOFLSH keeps the lines; without ISIG they are bytes.
@@ -81,7 +85,8 @@ quit_keeps_with_noflsh : after_key (terminal_with 7 abc (abc ∷ [])) 28 ≡
     record { terminal = terminal_with 7 abc (abc ∷ []); echo = []; signal = Some 3 }
 quit_keeps_with_noflsh = refl
 
-susp_flushes : after_key (terminal_with 1 abc []) 26 ≡ record { terminal = terminal_with 1 [] []; echo = []; signal = Some 20 }
+susp_flushes : after_key (terminal_with 1 abc []) 26
+    ≡ record { terminal = terminal_with 1 [] []; echo = []; signal = Some 20 }
 susp_flushes = refl
 
 intr_without_isig : after_key (terminal_with 2 [] []) 3 ≡
@@ -97,7 +102,8 @@ take_the_rest : after_take (terminal_with 3 [] ((99 ∷ []) ∷ [] ∷ [])) 64 �
     Some (record { terminal = terminal_with 3 [] ([] ∷ []); bytes = 99 ∷ [] })
 take_the_rest = refl
 
-take_exactly : after_take (terminal_with 3 [] (abc ∷ [])) 3 ≡ Some (record { terminal = terminal_with 3 [] []; bytes = abc })
+take_exactly : after_take (terminal_with 3 [] (abc ∷ [])) 3
+    ≡ Some (record { terminal = terminal_with 3 [] []; bytes = abc })
 take_exactly = refl
 
 take_end_of_file : after_take (terminal_with 3 abc ([] ∷ [])) 64 ≡

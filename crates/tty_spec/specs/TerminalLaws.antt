@@ -24,7 +24,8 @@ pub record IsTerminal (terminal : Terminal) : Type 0 where
   pub done_lines : list_all is_done_line terminal.done_lines ≡ true
 
 -- what holds of both answers of a test holds of the one that is given
-either : {X : Type 0} (P : X → Type 0) (test : Bool) (x y : X) → (test ≡ true → P x) → (test ≡ false → P y) → P (if test then x else y)
+either : {X : Type 0} (P : X → Type 0) (test : Bool) (x y : X) → (test ≡ true → P x) → (test ≡ false → P y)
+    → P (if test then x else y)
 either P true x y here there = here refl
 either P false x y here there = there refl
 
@@ -44,10 +45,12 @@ second_of_both false b p = absurd (grind arith)
 at_most : (n m : ℕ) → n ≤ m → nat_le n m ≡ true
 at_most n m h = grind (arith, nat_tests)
 
-joined : {X : Type 0} (p : X → Bool) (xs ys : List X) → list_all p xs ≡ true → list_all p ys ≡ true → list_all p (xs ++ ys) ≡ true
+joined : {X : Type 0} (p : X → Bool) (xs ys : List X) → list_all p xs ≡ true → list_all p ys ≡ true
+    → list_all p (xs ++ ys) ≡ true
 joined p xs ys h k = list_all-append p xs ys ∙ both (list_all p xs) (list_all p ys) h k
 
-parted : {X : Type 0} (p : X → Bool) (xs : List X) (n : ℕ) → list_all p xs ≡ true → (list_all p (take n xs) && list_all p (drop n xs)) ≡ true
+parted : {X : Type 0} (p : X → Bool) (xs : List X) (n : ℕ) → list_all p xs ≡ true
+    → (list_all p (take n xs) && list_all p (drop n xs)) ≡ true
 parted p xs n h = sym (list_all-append p (take n xs) (drop n xs)) ∙ (ap (list_all p) (take-append-drop n xs) ∙ h)
 
 front_keeps : {X : Type 0} (p : X → Bool) (xs : List X) (n : ℕ) → list_all p xs ≡ true → list_all p (take n xs) ≡ true
@@ -57,21 +60,40 @@ back_keeps : {X : Type 0} (p : X → Bool) (xs : List X) (n : ℕ) → list_all 
 back_keeps p xs n h = second_of_both (list_all p (take n xs)) (list_all p (drop n xs)) (parted p xs n h)
 
 pub opening_is_terminal : IsTerminal opening_terminal
-opening_is_terminal = record { flags = omega arith; line_size = omega arith; line_bytes = refl; done_count = omega arith; done_lines = refl }
+opening_is_terminal = record {
+  flags = omega arith;
+  line_size = omega arith;
+  line_bytes = refl;
+  done_count = omega arith;
+  done_lines = refl;
+}
 
 abbrev Keeps : KeyTaken → Type 0
 Keeps key = IsTerminal key.terminal
 
 killing_keeps : (terminal : Terminal) → IsTerminal terminal → Keeps (killing terminal)
-killing_keeps terminal h = record { flags = h.flags; line_size = omega arith; line_bytes = refl; done_count = h.done_count; done_lines = h.done_lines }
+killing_keeps terminal h = record {
+  flags = h.flags;
+  line_size = omega arith;
+  line_bytes = refl;
+  done_count = h.done_count;
+  done_lines = h.done_lines;
+}
 
 signalling_keeps : (terminal : Terminal) (signal : ℕ) → IsTerminal terminal → Keeps (signalling terminal signal)
 signalling_keeps terminal signal h =
     either IsTerminal (has_flag terminal noflsh_flag) _ _
     (λ _. h)
-    (λ _. record { flags = h.flags; line_size = omega arith; line_bytes = refl; done_count = omega arith; done_lines = refl })
+    (λ _. record {
+      flags = h.flags;
+      line_size = omega arith;
+      line_bytes = refl;
+      done_count = omega arith;
+      done_lines = refl;
+    })
 
-erasing_keeps : (terminal : Terminal) (line : List ℕ) → terminal.line ≡ line → IsTerminal terminal → Keeps (erasing terminal line)
+erasing_keeps : (terminal : Terminal) (line : List ℕ) → terminal.line ≡ line → IsTerminal terminal
+    → Keeps (erasing terminal line)
 erasing_keeps terminal [] is h = h
 erasing_keeps terminal (first ∷ rest) is h = record {
   flags = h.flags;
@@ -93,22 +115,32 @@ adding_keeps terminal byte b h =
     })
     (λ _. h)
 
-done_line : (line bytes : List ℕ) → length line ≤ 254 → length bytes ≤ 1 → list_all is_byte line ≡ true → list_all is_byte bytes ≡ true → is_done_line (line ++ bytes) ≡ true
+done_line : (line bytes : List ℕ) → length line ≤ 254 → length bytes ≤ 1 → list_all is_byte line ≡ true
+    → list_all is_byte bytes ≡ true → is_done_line (line ++ bytes) ≡ true
 done_line line bytes small few h k =
     both (nat_le (length (line ++ bytes)) 255) (list_all is_byte (line ++ bytes))
     (at_most (length (line ++ bytes)) 255 (omega (arith, length-append line bytes)))
     (joined is_byte line bytes h k)
 
-ending_keeps : (terminal : Terminal) (bytes : List ℕ) → length bytes ≤ 1 → list_all is_byte bytes ≡ true → IsTerminal terminal → Keeps (ending terminal bytes)
+ending_keeps : (terminal : Terminal) (bytes : List ℕ) → length bytes ≤ 1 → list_all is_byte bytes ≡ true
+    → IsTerminal terminal → Keeps (ending terminal bytes)
 ending_keeps terminal bytes few within h =
     either Keeps (nat_lt (length terminal.done_lines) 16) _ _
     (λ fits. record {
       flags = h.flags;
       line_size = omega arith;
       line_bytes = refl;
-      done_count = omega (arith, length-append terminal.done_lines ((terminal.line ++ bytes) ∷ []), ltb-true (length terminal.done_lines) 16 fits);
+      done_count = omega (
+        arith,
+        length-append terminal.done_lines ((terminal.line ++ bytes) ∷ []),
+        ltb-true (length terminal.done_lines) 16 fits,
+      );
       done_lines = joined is_done_line terminal.done_lines ((terminal.line ++ bytes) ∷ []) h.done_lines
-          (both (is_done_line (terminal.line ++ bytes)) true (done_line terminal.line bytes h.line_size few h.line_bytes within) refl);
+          (both
+          (is_done_line (terminal.line ++ bytes))
+          true
+          (done_line terminal.line bytes h.line_size few h.line_bytes within)
+          refl);
     })
     (λ _. h)
 
@@ -120,19 +152,23 @@ editing_keeps terminal byte b h =
     either Keeps (nat_eq byte 10) _ _ (λ _. ending_keeps terminal (10 ∷ []) (omega arith) refl h) (λ _.
     adding_keeps terminal byte b h))))
 
-keying_keeps : (signal : Option ℕ) (terminal : Terminal) (byte : ℕ) → byte < 256 → IsTerminal terminal → Keeps (keying signal terminal byte)
+keying_keeps : (signal : Option ℕ) (terminal : Terminal) (byte : ℕ) → byte < 256 → IsTerminal terminal
+    → Keeps (keying signal terminal byte)
 keying_keeps (Some signal) terminal byte b h = signalling_keeps terminal signal h
 keying_keeps None terminal byte b h = editing_keeps terminal byte b h
 
 -- a key keeps it so
-pub after_key_keeps : (terminal : Terminal) (byte : ℕ) → byte < 256 → IsTerminal terminal → IsTerminal (after_key terminal byte).terminal
-after_key_keeps terminal byte b h = keying_keeps (if has_flag terminal isig_flag then signal_of_key byte else None) terminal byte b h
+pub after_key_keeps : (terminal : Terminal) (byte : ℕ) → byte < 256 → IsTerminal terminal
+    → IsTerminal (after_key terminal byte).terminal
+after_key_keeps terminal byte b h =
+    keying_keeps (if has_flag terminal isig_flag then signal_of_key byte else None) terminal byte b h
 
 left_count : (bytes : List ℕ) (lines : List (List ℕ)) → length (left_before bytes lines) ≤ length lines + 1
 left_count [] lines = omega arith
 left_count (byte ∷ rest) lines = omega arith
 
-left_keeps : (bytes : List ℕ) (lines : List (List ℕ)) → is_done_line bytes ≡ true → list_all is_done_line lines ≡ true → list_all is_done_line (left_before bytes lines) ≡ true
+left_keeps : (bytes : List ℕ) (lines : List (List ℕ)) → is_done_line bytes ≡ true → list_all is_done_line lines ≡ true
+    → list_all is_done_line (left_before bytes lines) ≡ true
 left_keeps [] lines h k = k
 left_keeps (byte ∷ rest) lines h k = both (is_done_line (byte ∷ rest)) (list_all is_done_line lines) h k
 
@@ -140,13 +176,19 @@ left_keeps (byte ∷ rest) lines h k = both (is_done_line (byte ∷ rest)) (list
 back_is_done : (line : List ℕ) (n : ℕ) → is_done_line line ≡ true → is_done_line (drop n line) ≡ true
 back_is_done line n h =
     both (nat_le (length (drop n line)) 255) (list_all is_byte (drop n line))
-    (at_most (length (drop n line)) 255 (omega (arith, length-drop n line, leb-true (length line) 255 (first_of_both (nat_le (length line) 255) (list_all is_byte line) h))))
+    (at_most (length (drop n line)) 255 (omega (
+      arith,
+      length-drop n line,
+      leb-true (length line) 255 (first_of_both (nat_le (length line) 255) (list_all is_byte line) h),
+    )))
     (back_keeps is_byte line n (second_of_both (nat_le (length line) 255) (list_all is_byte line) h))
 
-taking_keeps : (terminal : Terminal) (lines : List (List ℕ)) (n : ℕ) → terminal.done_lines ≡ lines → IsTerminal terminal → IfSome (taking terminal lines n) (λ taken. IsTerminal taken.terminal)
+taking_keeps : (terminal : Terminal) (lines : List (List ℕ)) (n : ℕ) → terminal.done_lines ≡ lines
+    → IsTerminal terminal → IfSome (taking terminal lines n) (λ taken. IsTerminal taken.terminal)
 taking_keeps terminal [] n is h = tt
 taking_keeps terminal (first ∷ rest) n is h =
-    let all : (is_done_line first && list_all is_done_line rest) ≡ true = ap (list_all is_done_line) (sym is) ∙ h.done_lines in
+    let all : (is_done_line first && list_all is_done_line rest) ≡ true =
+    ap (list_all is_done_line) (sym is) ∙ h.done_lines in
     record {
       flags = h.flags;
       line_size = h.line_size;
@@ -158,5 +200,6 @@ taking_keeps terminal (first ∷ rest) n is h =
     }
 
 -- a read keeps it so
-pub after_take_keeps : (terminal : Terminal) (n : ℕ) → IsTerminal terminal → IfSome (after_take terminal n) (λ taken. IsTerminal taken.terminal)
+pub after_take_keeps : (terminal : Terminal) (n : ℕ) → IsTerminal terminal
+    → IfSome (after_take terminal n) (λ taken. IsTerminal taken.terminal)
 after_take_keeps terminal n h = taking_keeps terminal terminal.done_lines n refl h
