@@ -1,5 +1,5 @@
 -- Texts of calls, replies, directives and events, as they are written.
-use Rattle.std.specs.Prelude.{◌≡◌, refl, pos, negsuc, true, false, [], ◌∷◌, codes, Some, None}
+use Rattle.std.specs.Prelude.{◌≡◌, refl, pos, negsuc, true, [], ◌∷◌, codes}
 use Rattle.std.specs.Fmt.{digits}
 use Rattle.w32_base.specs.declared.call.Region.TheVariants as region
 use Rattle.w32_base.specs.declared.call.TtyOp.TheVariants as tty

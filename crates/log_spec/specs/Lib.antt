@@ -7,3 +7,4 @@ pub mod Output
 pub mod Views
 pub mod EventsText
 pub mod EventCases
+pub mod LogCases
