@@ -2,8 +2,10 @@
 //! first fault of a text that is no script, and the one canonical print of a script.
 #![tactic(auto)]
 
+pub mod fault;
 pub mod script;
 
+pub use fault::{FirstWord, Kind, Sort};
 pub use script::{Lines, Occupied, OccupiedPage, ScheduleLine, Script};
 
 /// How many bytes a script's text has at the most.
