@@ -21,7 +21,7 @@ pub record Judged : Type 0 where
 -- the place that a line of these words names
 abbrev pub place_of : List (List ℕ) → Option ℕ
 place_of [] = None
-place_of (w ∷ ws) = option_and_then (λ first. place_as ws (kept_form (forms 0 first) ws)) (first_word w)
+place_of (w ∷ ws) = option_and_then (λ word. place_as ws (kept_form (forms 0 word) ws)) (first_word w)
 
 abbrev pub judge : List (List (List ℕ)) → ℕ → Line → Judged
 judge before n line = record {

@@ -3,59 +3,71 @@ use Rattle.std.specs.Prelude.{ℕ, Bool, true, false, List, [], ◌∷◌, codes
 use Rattle.script_spec.specs.declared.fault.Kind.{Kind}
 use Rattle.script_spec.specs.declared.fault.Kind.TheVariants.{Words}
 use Rattle.script_spec.specs.declared.fault.FirstWord.{FirstWord}
-use Rattle.script_spec.specs.declared.fault.FirstWord.TheVariants as word
+use Rattle.script_spec.specs.declared.fault.FirstWord.TheVariants as first
+use Rattle.script_spec.specs.declared.fault.InstrWord.{InstrWord}
+use Rattle.script_spec.specs.declared.fault.InstrWord.TheVariants as word
+use Rattle.script_spec.specs.declared.fault.DirectiveWord.{DirectiveWord}
+use Rattle.script_spec.specs.declared.fault.DirectiveWord.TheVariants as directive
 use Rattle.script_spec.specs.Numbers.{value_of}
 use Rattle.script_spec.specs.Faults.{least}
 use Rattle.script_spec.specs.Fields.{Field, Fixed, Register, Value, Place, Number, Name, KeyByte, field_fault}
 
--- the forms of the line with a first word, in a script of so many slots
-abbrev pub forms : ℕ → FirstWord → List (List Field)
-forms slots word.CygScript = (Fixed (codes "1") ∷ []) ∷ []
-forms slots word.Slots = (Number 1 64 ∷ []) ∷ []
-forms slots word.Rows = (Number 1 4000 ∷ []) ∷ []
-forms slots word.Budget = (Number 1 500000 ∷ []) ∷ []
-forms slots word.Module = (Name ∷ Number 0 1023 ∷ Number 1 8 ∷ []) ∷ []
-forms slots word.Occupy = (Number 1 500000 ∷ Number 0 1023 ∷ []) ∷ []
-forms slots word.Program = (Name ∷ Fixed (codes "heap") ∷ Number 0 32768 ∷ Fixed (codes "stack") ∷ Number 64 32768 ∷ []) ∷ []
-forms slots word.Set = (Register ∷ Value ∷ []) ∷ []
-forms slots word.Add = (Register ∷ Value ∷ []) ∷ []
-forms slots word.Load = (Register ∷ Value ∷ []) ∷ []
-forms slots word.Store = (Value ∷ Value ∷ []) ∷ []
-forms slots word.Push = (Value ∷ []) ∷ []
-forms slots word.Pop = (Register ∷ []) ∷ []
-forms slots word.Jump = (Place ∷ []) ∷ []
-forms slots word.JumpZero = (Value ∷ Place ∷ []) ∷ []
-forms slots word.JumpNegative = (Value ∷ Place ∷ []) ∷ []
-forms slots word.GetPid = [] ∷ []
-forms slots word.GetPpid = [] ∷ []
-forms slots word.GetPgid = [] ∷ []
-forms slots word.GetSid = [] ∷ []
-forms slots word.Fork = [] ∷ []
-forms slots word.Exec = (Name ∷ []) ∷ []
-forms slots word.Exit = (Value ∷ []) ∷ []
-forms slots word.Wait = (Value ∷ Value ∷ []) ∷ []
-forms slots word.Kill = (Value ∷ Value ∷ []) ∷ []
-forms slots word.Action = (Value ∷ Fixed (codes "default") ∷ []) ∷ (Value ∷ Fixed (codes "ignore") ∷ [])
+-- the forms of an instruction
+abbrev pub instr_forms : InstrWord → List (List Field)
+instr_forms word.Set = (Register ∷ Value ∷ []) ∷ []
+instr_forms word.Add = (Register ∷ Value ∷ []) ∷ []
+instr_forms word.Load = (Register ∷ Value ∷ []) ∷ []
+instr_forms word.Store = (Value ∷ Value ∷ []) ∷ []
+instr_forms word.Push = (Value ∷ []) ∷ []
+instr_forms word.Pop = (Register ∷ []) ∷ []
+instr_forms word.Jump = (Place ∷ []) ∷ []
+instr_forms word.JumpZero = (Value ∷ Place ∷ []) ∷ []
+instr_forms word.JumpNegative = (Value ∷ Place ∷ []) ∷ []
+instr_forms word.GetPid = [] ∷ []
+instr_forms word.GetPpid = [] ∷ []
+instr_forms word.GetPgid = [] ∷ []
+instr_forms word.GetSid = [] ∷ []
+instr_forms word.Fork = [] ∷ []
+instr_forms word.Exec = (Name ∷ []) ∷ []
+instr_forms word.Exit = (Value ∷ []) ∷ []
+instr_forms word.Wait = (Value ∷ Value ∷ []) ∷ []
+instr_forms word.Kill = (Value ∷ Value ∷ []) ∷ []
+instr_forms word.Action = (Value ∷ Fixed (codes "default") ∷ []) ∷ (Value ∷ Fixed (codes "ignore") ∷ [])
     ∷ (Value ∷ Fixed (codes "handler") ∷ Place ∷ [])
     ∷ (Value ∷ Fixed (codes "handler") ∷ Place ∷ Fixed (codes "restart") ∷ []) ∷ []
-forms slots word.Mask = (Fixed (codes "block") ∷ Value ∷ []) ∷ (Fixed (codes "unblock") ∷ Value ∷ [])
+instr_forms word.Mask = (Fixed (codes "block") ∷ Value ∷ []) ∷ (Fixed (codes "unblock") ∷ Value ∷ [])
     ∷ (Fixed (codes "set") ∷ Value ∷ []) ∷ []
-forms slots word.Suspend = (Value ∷ []) ∷ []
-forms slots word.Pause = [] ∷ []
-forms slots word.Return = [] ∷ []
-forms slots word.SetPgid = (Value ∷ Value ∷ []) ∷ []
-forms slots word.SetSid = [] ∷ []
-forms slots word.TcSet = (Value ∷ []) ∷ []
-forms slots word.TcGet = [] ∷ []
-forms slots word.TtyFlags = (Value ∷ []) ∷ []
-forms slots word.Read = (Value ∷ Value ∷ []) ∷ []
-forms slots word.Write = (Value ∷ Value ∷ []) ∷ []
-forms slots word.Schedule = [] ∷ []
-forms slots word.Turn = (Number 0 slots ∷ Number 0 2 ∷ []) ∷ []
-forms slots word.End = (Number 1 slots ∷ []) ∷ []
-forms slots word.Key = (KeyByte ∷ []) ∷ []
-forms slots word.Steps = (Number 1 500000 ∷ []) ∷ []
-forms slots word.Settle = [] ∷ []
+instr_forms word.Suspend = (Value ∷ []) ∷ []
+instr_forms word.Pause = [] ∷ []
+instr_forms word.Return = [] ∷ []
+instr_forms word.SetPgid = (Value ∷ Value ∷ []) ∷ []
+instr_forms word.SetSid = [] ∷ []
+instr_forms word.TcSet = (Value ∷ []) ∷ []
+instr_forms word.TcGet = [] ∷ []
+instr_forms word.TtyFlags = (Value ∷ []) ∷ []
+instr_forms word.Read = (Value ∷ Value ∷ []) ∷ []
+instr_forms word.Write = (Value ∷ Value ∷ []) ∷ []
+
+-- the forms of a schedule's line, in a script of so many slots
+abbrev pub directive_forms : ℕ → DirectiveWord → List (List Field)
+directive_forms slots directive.Turn = (Number 0 slots ∷ Number 0 2 ∷ []) ∷ []
+directive_forms slots directive.End = (Number 1 slots ∷ []) ∷ []
+directive_forms slots directive.Key = (KeyByte ∷ []) ∷ []
+directive_forms slots directive.Steps = (Number 1 500000 ∷ []) ∷ []
+directive_forms slots directive.Settle = [] ∷ []
+
+-- the forms of the line with a first word, in a script of so many slots
+abbrev pub forms : ℕ → FirstWord → List (List Field)
+forms slots first.CygScript = (Fixed (codes "1") ∷ []) ∷ []
+forms slots first.Slots = (Number 1 64 ∷ []) ∷ []
+forms slots first.Rows = (Number 1 4000 ∷ []) ∷ []
+forms slots first.Budget = (Number 1 500000 ∷ []) ∷ []
+forms slots first.Module = (Name ∷ Number 0 1023 ∷ Number 1 8 ∷ []) ∷ []
+forms slots first.Occupy = (Number 1 500000 ∷ Number 0 1023 ∷ []) ∷ []
+forms slots first.Program = (Name ∷ Fixed (codes "heap") ∷ Number 0 32768 ∷ Fixed (codes "stack") ∷ Number 64 32768 ∷ []) ∷ []
+forms slots (first.Instr w) = instr_forms w
+forms slots first.Schedule = [] ∷ []
+forms slots (first.Directive w) = directive_forms slots w
 
 -- the least fault of words that are to have a form
 abbrev pub form_fault : List Field → List (List ℕ) → Option Kind

@@ -5,7 +5,7 @@ use Rattle.w32_base.specs.Names.{is_same, is_among}
 use Rattle.script_spec.specs.declared.fault.Kind.{Kind}
 use Rattle.script_spec.specs.declared.fault.Kind.TheVariants.{NoHeader, Unfinished, NotAscii, TooLong, Unknown, Range, Twice, TooMany}
 use Rattle.script_spec.specs.declared.fault.FirstWord.{FirstWord}
-use Rattle.script_spec.specs.declared.fault.FirstWord.TheVariants as word
+use Rattle.script_spec.specs.declared.fault.FirstWord.TheVariants as first
 use Rattle.script_spec.specs.declared.fault.Sort.{Sort}
 use Rattle.script_spec.specs.declared.fault.Sort.TheVariants as sort
 use Rattle.script_spec.specs.Lines.{Line, words_of, is_skipped}
@@ -25,7 +25,7 @@ bytes_fault line = if not line.is_ended then Some Unfinished
 
 -- the pages of a module end at 1024
 abbrev pub pages_fault : FirstWord → List (List ℕ) → Option Kind
-pages_fault word.Module (name ∷ base ∷ size ∷ ws) = fault_if (nat_lt 1024 (value_of base + value_of size)) Range
+pages_fault first.Module (name ∷ base ∷ size ∷ ws) = fault_if (nat_lt 1024 (value_of base + value_of size)) Range
 pages_fault _ _ = None
 
 -- two modules have two names, and so have two programs
@@ -47,20 +47,20 @@ is_full _ before = false
 
 -- the fault of the words after a first word that may stand here
 abbrev pub written_fault : List (List (List ℕ)) → FirstWord → List (List ℕ) → Option Kind
-written_fault before first ws =
-    least (forms_fault (forms (slots_of before) first) ws)
-    (least (pages_fault first ws)
-    (least (twice_fault (sort_of first) before ws)
-    (fault_if (is_full (sort_of first) before) TooMany)))
+written_fault before word ws =
+    least (forms_fault (forms (slots_of before) word) ws)
+    (least (pages_fault word ws)
+    (least (twice_fault (sort_of word) before ws)
+    (fault_if (is_full (sort_of word) before) TooMany)))
 
 -- the fault of a line with a known first word, after a line of a sort; a line that may not stand here is judged no further
 abbrev pub known_fault : List (List (List ℕ)) → Option Sort → FirstWord → List (List ℕ) → Option Kind
-known_fault before None first ws = Some Unknown
-known_fault before (Some last) first ws = least (place_fault last (sort_of first)) (written_fault before first ws)
+known_fault before None word ws = Some Unknown
+known_fault before (Some last) word ws = least (place_fault last (sort_of word)) (written_fault before word ws)
 
 abbrev pub begun_fault : List (List (List ℕ)) → Option Sort → Option FirstWord → List (List ℕ) → Option Kind
 begun_fault before last None ws = Some Unknown
-begun_fault before last (Some first) ws = known_fault before last first ws
+begun_fault before last (Some word) ws = known_fault before last word ws
 
 -- `cygscript 1`
 abbrev pub is_header : List (List ℕ) → Bool

@@ -1,14 +1,11 @@
 -- Where a line may stand. The lines before it that aren't skipped are given as their words, the last of them first.
 use Rattle.std.specs.Prelude.{ℕ, suc, ◌+◌, Bool, true, false, nat_eq, nat_le, List, [], ◌∷◌, Option, Some, None, if◌then◌else◌}
-use Rattle.w32_base.specs.Names.{is_same}
 use Rattle.script_spec.specs.declared.fault.Kind.{Kind}
 use Rattle.script_spec.specs.declared.fault.Kind.TheVariants.{NoHeader, Missing, Unknown}
-use Rattle.script_spec.specs.declared.fault.FirstWord.{FirstWord}
-use Rattle.script_spec.specs.declared.fault.FirstWord.TheVariants as word
 use Rattle.script_spec.specs.declared.fault.Sort.{Sort}
 use Rattle.script_spec.specs.declared.fault.Sort.TheVariants as sort
 use Rattle.script_spec.specs.Numbers.{value_of}
-use Rattle.script_spec.specs.FirstWords.{word_text, sort_of_words}
+use Rattle.script_spec.specs.FirstWords.{sort_of_words}
 
 -- the place of a sort in the order of lines
 abbrev pub sort_number : Sort → ℕ
@@ -76,11 +73,6 @@ abbrev pub second : List (List ℕ) → List ℕ
 second [] = []
 second (w ∷ []) = []
 second (w ∷ v ∷ ws) = v
-
--- a line begins with this word
-abbrev pub begins_with : FirstWord → List (List ℕ) → Bool
-begins_with first [] = false
-begins_with first (w ∷ ws) = is_same (word_text first) w
 
 abbrev pub has_sort : Sort → Option Sort → Bool
 has_sort s None = false

@@ -58,23 +58,9 @@ pub enum Sort {
     Directive,
 }
 
-/// The first words of a script's lines.
+/// The first words of instructions.
 #[derive(Clone, Copy, Debug, PartialEq, Eq)]
-pub enum FirstWord {
-    /// `cygscript`
-    CygScript,
-    /// `slots`
-    Slots,
-    /// `rows`
-    Rows,
-    /// `budget`
-    Budget,
-    /// `module`
-    Module,
-    /// `occupy`
-    Occupy,
-    /// `program`
-    Program,
+pub enum InstrWord {
     /// `set`
     Set,
     /// `add`
@@ -135,8 +121,11 @@ pub enum FirstWord {
     Read,
     /// `write`
     Write,
-    /// `schedule`
-    Schedule,
+}
+
+/// The first words of a schedule's lines.
+#[derive(Clone, Copy, Debug, PartialEq, Eq)]
+pub enum DirectiveWord {
     /// `turn`
     Turn,
     /// `end`
@@ -147,4 +136,29 @@ pub enum FirstWord {
     Steps,
     /// `settle`
     Settle,
+}
+
+/// The first words of a script's lines.
+#[derive(Clone, Copy, Debug, PartialEq, Eq)]
+pub enum FirstWord {
+    /// `cygscript`
+    CygScript,
+    /// `slots`
+    Slots,
+    /// `rows`
+    Rows,
+    /// `budget`
+    Budget,
+    /// `module`
+    Module,
+    /// `occupy`
+    Occupy,
+    /// `program`
+    Program,
+    /// The word of an instruction.
+    Instr(InstrWord),
+    /// `schedule`
+    Schedule,
+    /// The word of a schedule's line.
+    Directive(DirectiveWord),
 }

@@ -5,7 +5,7 @@
 pub mod fault;
 pub mod script;
 
-pub use fault::{FirstWord, Kind, Sort};
+pub use fault::{DirectiveWord, FirstWord, InstrWord, Kind, Sort};
 pub use script::{Lines, Occupied, OccupiedPage, ScheduleLine, Script};
 
 /// How many bytes a script's text has at the most.
