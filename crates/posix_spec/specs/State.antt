@@ -57,8 +57,9 @@ pub record Record : Type 0 where
 abbrev pub Records : Type 0
 Records = map.FinMap nat_cmp Record
 
--- The whole state: the processes; the terminal, and what was put out on it by writes; the console's call for a group; the
--- numbers that were used; the status of process 2's death; whether the host has read its code.
+-- The whole state: the processes; the terminal, and what was put out on it, by writes and by the echo of keys; the
+-- console's call for a group; the numbers that were used; the status of process 2's death; whether the host has read
+-- its code.
 pub record PosixState : Type 0 where
   pub records : Records
   pub terminal : Terminal
