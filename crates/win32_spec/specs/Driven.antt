@@ -1,6 +1,6 @@
 -- A machine whose threads are driven by parts: each thread's calls and events come from its own part, which is given
 -- nothing but the bytes of its own process, the setup and the replies to its calls.
-use Rattle.std.specs.Prelude.{◌≡◌, ◌≢◌, ◌⊎◌, ℕ, Bool, true, false, nat_eq, Option, Some, None, MatchBool, MatchOption}
+use Rattle.std.specs.Prelude.{◌≡◌, ◌≢◌, ◌⊎◌, ℕ, zero, suc, ◌+◌, ◌*◌, Bool, true, false, nat_eq, nat_lt, if◌then◌else◌, List, [], ◌∷◌, Option, Some, None, MatchBool, MatchOption}
 use Rattle.w32_base.specs.declared.call.Call.{Call}
 use Rattle.w32_base.specs.declared.call.Reply.{Reply}
 use Rattle.w32_base.specs.declared.entry.Directive.{Directive}
@@ -18,9 +18,18 @@ use Rattle.win32_spec.specs.Ready.{is_ready}
 use Rattle.win32_spec.specs.Opening.{IsOpening}
 use Rattle.win32_spec.specs.Run.{PostedStep, EndStep, with_key}
 
--- the parts by slot and thread; there is none where there is no live thread
+-- the parts of all threads in the order of slots, three places a slot; there is none where there is no live thread
 abbrev pub Parts : Type 0 → Type 0
-Parts P = (slot t : ℕ) → Option P
+Parts P = List (Option P)
+
+abbrev pub part_in_place : {P : Type 0} → Parts P → ℕ → Option P
+part_in_place [] n = None
+part_in_place (part ∷ parts) zero = part
+part_in_place (part ∷ parts) (suc n) = part_in_place parts n
+
+-- the part of a thread
+abbrev pub part_at : {P : Type 0} → Parts P → ℕ → ℕ → Option P
+part_at parts slot t = if nat_lt t 3 then part_in_place parts (3 * slot + t) else None
 
 -- a machine with its parts, and the event of its last turn, if any
 pub record DrivenState (P : Type 0) : Type 0 where
@@ -46,8 +55,8 @@ module _ {P : Type 0} (posted_of : P → Call) (goes : P → Own → Setup → R
 
   -- each live thread has a part that serves it, and there are no others
   abbrev pub AreServed : Win32State → Parts P → Type 0
-  AreServed s parts = (slot t : ℕ) → MatchOption (thread_at s slot t) (parts slot t ≡ None)
-      (λ x. (part : P) × (parts slot t ≡ Some part) × Serves slot t x part)
+  AreServed s parts = (slot t : ℕ) → MatchOption (thread_at s slot t) (part_at parts slot t ≡ None)
+      (λ x. (part : P) × (part_at parts slot t ≡ Some part) × Serves slot t x part)
 
   -- a place has no part where there is no thread, and else one that was just opened
   abbrev pub OpensPart : Option Thread → ℕ → ℕ → Option P → Type 0
@@ -65,8 +74,8 @@ module _ {P : Type 0} (posted_of : P → Call) (goes : P → Own → Setup → R
   -- a process that has ended go, and those of a process that was made come as they are opened.
   abbrev pub PartFollows : Win32State → Win32State → Parts P → Parts P → ℕ → ℕ → Type 0
   PartFollows s new parts after slot t =
-      MatchBool (is_same_number (number_in s slot) (number_in new slot)) (after slot t ≡ parts slot t)
-      (OpensPart (thread_at new slot t) slot t (after slot t))
+      MatchBool (is_same_number (number_in s slot) (number_in new slot)) (part_at after slot t ≡ part_at parts slot t)
+      (OpensPart (thread_at new slot t) slot t (part_at after slot t))
 
   -- The part of thread t of process w goes on with a reply, over the bytes of its own process: the part, the own bytes
   -- and the event after it are what `goes` allows, and its next call is posted. Nothing else of the state changes.
@@ -88,9 +97,9 @@ module _ {P : Type 0} (posted_of : P → Call) (goes : P → Own → Setup → R
     pub posted : PostedStep script s slot t process thread reply mid
     pub carried_out : called ≡ thread.posted
     pub part : P
-    pub before : parts slot t ≡ Some part
+    pub before : part_at parts slot t ≡ Some part
     pub goes_on : MatchBool (is_live (process_of mid.processes process.number))
-        ((next : P) × PartGoes script mid process.number t part reply event next new × (after slot t ≡ Some next))
+        ((next : P) × PartGoes script mid process.number t part reply event next new × (part_at after slot t ≡ Some next))
         ((new ≡ mid) × (event ≡ None) × PartFollows s new parts after slot t)
     pub others : (other_slot other : ℕ) → (other_slot ≢ slot) ⊎ (other ≢ t) → PartFollows s new parts after other_slot other
 
@@ -107,7 +116,7 @@ module _ {P : Type 0} (posted_of : P → Call) (goes : P → Own → Setup → R
   -- Nothing of the machine's state changes, and no part.
   abbrev pub Rests : DrivenState P → Option Call → Outcome → DrivenState P → Type 0
   Rests d called came new = (called ≡ None) × (came ≡ outcome.Idle) × (new.win32 ≡ d.win32) × (new.last ≡ None)
-      × ((slot t : ℕ) → new.parts slot t ≡ d.parts slot t)
+      × (new.parts ≡ d.parts)
 
   -- what a directive does to a machine that is driven by parts, with the call and the outcome of its entry; the event of
   -- the entry is `new.last`
@@ -119,10 +128,10 @@ module _ {P : Type 0} (posted_of : P → Call) (goes : P → Own → Setup → R
       × AllFollow d.win32 new.win32 d.parts new.parts
   DrivenBy script d (directive.Key b) called came new =
       (called ≡ None) × (came ≡ outcome.Keyed) × (new.win32 ≡ with_key d.win32 b) × (new.last ≡ None)
-      × ((slot t : ℕ) → new.parts slot t ≡ d.parts slot t)
+      × (new.parts ≡ d.parts)
 
   -- the machine in which a run of this script begins: each thread has a part that was just opened
   pub record IsDrivenOpening (script : Script) (d : DrivenState P) : Type 0 where
     pub opens : IsOpening script d.win32
-    pub opened : (slot t : ℕ) → OpensPart (thread_at d.win32 slot t) slot t (d.parts slot t)
+    pub opened : (slot t : ℕ) → OpensPart (thread_at d.win32 slot t) slot t (part_at d.parts slot t)
     pub last : d.last ≡ None
