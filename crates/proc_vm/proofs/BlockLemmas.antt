@@ -3,7 +3,9 @@ use Rattle.std.proofs.Common.{◌≡◌, ℕ, zero, suc, ◌+◌, ◌<◌, ◌�
 use Rattle.w32_base.specs.declared.own.Own.{Own}
 use Rattle.w32_base.specs.declared.instr.Instr.{Instr}
 use Rattle.vm_spec.specs.Image.{image_of, with_image, SameSizes}
-use Rattle.vm_spec.specs.Step.{upcoming, LocalInstruction, local_step, block_of}
+use Rattle.vm_spec.specs.Step.{upcoming, LocalInstruction, local_step, block_of, IsBlock}
+use Rattle.vm_spec.specs.Block.{block_length, block_image}
+use Rattle.vm_spec.specs.BlockLaws.{IsBlock-iff, IsBlock-image}
 
 -- after n local instructions from the memory `old`
 pub record IsDone (code : List Instr) (old new : Own) (n : ℕ) : Type 0 where
@@ -48,3 +50,23 @@ IsDone-least code old now zero h local not_local =
     let image_is : image_of now ≡ image_of old = IsDone-image code old now zero h in
     absurd (not_local (ap (upcoming code) image_is ∙ local))
 IsDone-least code old now (suc n) h local not_local = omega arith
+
+-- after n the block is over where the next is not local, or where there are 256
+pub IsDone-block : (code : List Instr) (old now : Own) (n : ℕ) → IsDone code old now n → n ≤ 256 →
+    (n < 256 → upcoming code (image_of now) ≡ LocalInstruction → ⊥) → IsBlock code (image_of old) n
+IsDone-block code old now n h most not_local = record {
+  most = most;
+  local = h.local;
+  ended = λ l e. not_local l (ap (upcoming code) (IsDone-image code old now n h) ∙ e);
+}
+
+-- so it has the block's length, and the memory is the one after it
+pub IsDone-length : (code : List Instr) (old now : Own) (n : ℕ) → IsDone code old now n → n ≤ 256 →
+    (n < 256 → upcoming code (image_of now) ≡ LocalInstruction → ⊥) → n ≡ block_length code (image_of old)
+IsDone-length code old now n h most not_local =
+    (IsBlock-iff code (image_of old) n).0 (IsDone-block code old now n h most not_local)
+
+pub IsDone-whole : (code : List Instr) (old now : Own) (n : ℕ) → IsDone code old now n → n ≤ 256 →
+    (n < 256 → upcoming code (image_of now) ≡ LocalInstruction → ⊥) → now ≡ with_image old (block_image code (image_of old))
+IsDone-whole code old now n h most not_local =
+    h.value ∙ ap (λ i. with_image old i) (IsBlock-image code (image_of old) n (IsDone-block code old now n h most not_local))

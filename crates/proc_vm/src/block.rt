@@ -2,6 +2,7 @@
 
 ghost use Rattle.std.specs.Prelude.{◌≡◌, ◌≤◌, length};
 ghost use Rattle.vm_spec.specs.Image.{image_of, with_image, SameSizes};
+ghost use Rattle.vm_spec.specs.Block.{block_length, block_image};
 ghost use Rattle.vm_spec.specs.Step.{upcoming, LocalInstruction, block_of, IsBlock};
 
 use crate::step::step;
@@ -15,7 +16,9 @@ pub fn run_block(own: &mut Own, p: &Program) -> u16
     requires local { upcoming p.now.code (image_of own.old) ≡ LocalInstruction }
     ensures range { (1 ≤ result) × (result ≤ 256) }
     ensures block { IsBlock p.now.code (image_of own.old) result }
+    ensures length { result ≡ block_length p.now.code (image_of own.old) }
     ensures value { own.new ≡ with_image own.old (block_of result p.now.code (image_of own.old)) }
+    ensures image { own.new ≡ with_image own.old (block_image p.now.code (image_of own.old)) }
     ensures len { length own.new.dat ≡ 64 }
     ensures sizes { SameSizes (image_of own.old) (image_of own.new) }
 {

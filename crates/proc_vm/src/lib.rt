@@ -1,8 +1,9 @@
-//! Process instructions: what is next in a program, blocks of local instructions on the process's memory, and the
-//! result of a call. The memory is changed in place; no call takes memory.
+//! Process instructions: what is next in a program, blocks of local instructions on the process's memory, the result
+//! of a call, and the frames of signal handlers. The memory is changed in place; no call takes memory.
 #![tactic(auto)]
 
 mod block;
+mod frames;
 mod next;
 mod readers;
 mod step;
@@ -12,6 +13,7 @@ mod words;
 mod writers;
 
 pub use block::run_block;
+pub use frames::{NoFrame, NoRoom, pop_frame, push_frame};
 pub use next::{CallInstr, Next, next_instr};
 pub use readers::{next_place, operand_value, program_number, register, stack_in_use};
 pub use writers::set_result;

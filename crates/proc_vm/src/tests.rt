@@ -89,6 +89,28 @@ fn answer(own: &mut Own, r0: i32, r1: Option<i32>)
     }
 }
 
+/// Pushes a frame, where no more bytes of stack are in use than there are.
+fn pushed(own: &mut Own, mask: u32, target: u16) -> Result<(), NoRoom>
+    requires { length own.old.dat ≡ 64 }
+    ensures { length own.new.dat ≡ 64 }
+{
+    if stack_in_use(own) as usize > own.stack.len() {
+        return Err(NoRoom);
+    }
+    push_frame(own, mask, target)
+}
+
+/// Pops a frame, where no more bytes of stack are in use than there are.
+fn popped(own: &mut Own) -> Result<u32, NoFrame>
+    requires { length own.old.dat ≡ 64 }
+    ensures { length own.new.dat ≡ 64 }
+{
+    if stack_in_use(own) as usize > own.stack.len() {
+        return Err(NoFrame);
+    }
+    pop_frame(own)
+}
+
 fn number(n: i32) -> Operand {
     Operand::Number(n)
 }
@@ -208,5 +230,36 @@ fn a_result_is_written(rt: HostRuntime) -> Result<(), Fail> {
     assert_eq!(rt; next_place(&own), 2);
     assert_eq!(rt; operand_value(&own, Operand::Register(r(1))), 267);
     assert_eq!(rt; program_number(&own), 0);
+    Ok(())
+}
+
+#[test]
+fn a_frame_is_pushed_and_popped(rt: HostRuntime) -> Result<(), Fail> {
+    let mut own = memory(rt.alloc(), 0)?;
+    answer(&mut own, -4, Some(7));
+    assert_eq!(rt; pushed(&mut own, 0x0102_0304, 300), Ok(()));
+    let stack = own.stack.as_slice();
+    assert!(rt; stack.len() == 64);
+    assert_eq!(rt; &stack[..9], &[252, 255, 255, 255, 7, 0, 0, 0, 0][..]);
+    assert_eq!(rt; &stack[32..41], &[1, 0, 0, 0, 4, 3, 2, 1, 0][..]);
+    assert_eq!(rt; next_place(&own), 300);
+    assert_eq!(rt; stack_in_use(&own), 40);
+    assert_eq!(rt; register(&own, r(0)), -4);
+    answer(&mut own, 5, Some(6));
+    assert_eq!(rt; popped(&mut own), Ok(0x0102_0304));
+    assert_eq!(rt; register(&own, r(0)), -4);
+    assert_eq!(rt; register(&own, r(1)), 7);
+    assert_eq!(rt; next_place(&own), 1);
+    assert_eq!(rt; stack_in_use(&own), 0);
+    assert_eq!(rt; popped(&mut own), Err(NoFrame));
+    Ok(())
+}
+
+#[test]
+fn a_frame_needs_40_bytes(rt: HostRuntime) -> Result<(), Fail> {
+    assert_eq!(rt; pushed(&mut memory(rt.alloc(), 24)?, 1, 1), Ok(()));
+    assert_eq!(rt; pushed(&mut memory(rt.alloc(), 25)?, 1, 1), Err(NoRoom));
+    assert_eq!(rt; popped(&mut memory(rt.alloc(), 40)?), Ok(0));
+    assert_eq!(rt; popped(&mut memory(rt.alloc(), 39)?), Err(NoFrame));
     Ok(())
 }

@@ -11,10 +11,10 @@ use Rattle.vm_spec.specs.Frames.{has_frame_room, frame_bytes, stack_with_frame, 
 use Rattle.vm_spec.specs.WordLaws.{length-with_word, word_at-with_word, word_at-with_word_below}
 use Rattle.vm_spec.specs.SizeLaws.{SameSizes-trans, SameSizes-word}
 
-pub length-frame_bytes : (image : Image) (mask : ℕ) → length image.dat ≡ 64 → length (frame_bytes image mask) ≡ 40
+pub length-frame_bytes : (dat : List ℕ) (mask : ℕ) → length dat ≡ 64 → length (frame_bytes dat mask) ≡ 40
 unfolding frame_bytes
-length-frame_bytes image mask h =
-    omega (arith, length-append (take 36 image.dat) (to_le_bytes w32 mask), length-take-le 36 image.dat (omega arith))
+length-frame_bytes dat mask h =
+    omega (arith, length-append (take 36 dat) (to_le_bytes w32 mask), length-take-le 36 dat (omega arith))
 
 room : (image : Image) → has_frame_room image ≡ true → in_use image + 40 ≤ length image.stack
 room image h = leb-true (in_use image + 40) (length image.stack) h
@@ -24,7 +24,7 @@ pub length-stack_with_frame : (image : Image) (mask : ℕ) → length image.dat 
 unfolding stack_with_frame
 length-stack_with_frame image mask h fits =
     let r = room image fits in
-    let bytes = length-frame_bytes image mask h in
+    let bytes = length-frame_bytes image.dat mask h in
     simp (length-append, length-take, length-drop) (omega arith)
 
 pub SameSizes-with_frame : (image : Image) (mask handler : ℕ) → length image.dat ≡ 64 → has_frame_room image ≡ true →
@@ -85,14 +85,14 @@ has_frame-with_frame image mask handler h fits =
 
 -- the bytes of the stack from the frame on
 drop-stack_with_frame : (image : Image) (mask : ℕ) → has_frame_room image ≡ true →
-    drop (in_use image) (stack_with_frame image mask) ≡ frame_bytes image mask ++ drop (in_use image + 40) image.stack
+    drop (in_use image) (stack_with_frame image mask) ≡ frame_bytes image.dat mask ++ drop (in_use image + 40) image.stack
 unfolding stack_with_frame
 drop-stack_with_frame image mask fits =
     let r = room image fits in
     ap (λ xs. drop (in_use image) xs)
-    (append_assoc (take (in_use image) image.stack) (frame_bytes image mask)
+    (append_assoc (take (in_use image) image.stack) (frame_bytes image.dat mask)
     (drop (in_use image + 40) image.stack))
-    ∙ drop_at (take (in_use image) image.stack) (frame_bytes image mask ++ drop (in_use image + 40) image.stack)
+    ∙ drop_at (take (in_use image) image.stack) (frame_bytes image.dat mask ++ drop (in_use image + 40) image.stack)
     (in_use image)
     (length-take-le (in_use image) image.stack (omega arith))
 
@@ -100,14 +100,14 @@ word_at-further : (xs : List ℕ) (n m : ℕ) → word_at xs (n + m) ≡ word_at
 unfolding word_at
 word_at-further xs n m = ap (λ ys. from_le_bytes w32 (take 4 ys)) (sym (drop-drop m n xs))
 
-mask_in_bytes : (image : Image) (mask : ℕ) (rest : List ℕ) → length image.dat ≡ 64 → mask < 2 ^ 32 →
-    word_at (frame_bytes image mask ++ rest) 36 ≡ mask
+mask_in_bytes : (dat : List ℕ) (mask : ℕ) (rest : List ℕ) → length dat ≡ 64 → mask < 2 ^ 32 →
+    word_at (frame_bytes dat mask ++ rest) 36 ≡ mask
 unfolding word_at frame_bytes
-mask_in_bytes image mask rest h fits =
-    let front : length (take 36 image.dat) ≡ 36 = length-take-le 36 image.dat (omega arith) in
+mask_in_bytes dat mask rest h fits =
+    let front : length (take 36 dat) ≡ 36 = length-take-le 36 dat (omega arith) in
     ap (λ ys. from_le_bytes w32 (take 4 ys))
-    (ap (λ xs. drop 36 xs) (append_assoc (take 36 image.dat) (to_le_bytes w32 mask) rest)
-    ∙ drop_at (take 36 image.dat) (to_le_bytes w32 mask ++ rest) 36 front)
+    (ap (λ xs. drop 36 xs) (append_assoc (take 36 dat) (to_le_bytes w32 mask) rest)
+    ∙ drop_at (take 36 dat) (to_le_bytes w32 mask ++ rest) 36 front)
     ∙ from_le_bytes-to_le_bytes_4 mask fits
 
 pub frame_mask-with_frame : (image : Image) (mask handler : ℕ) → length image.dat ≡ 64 →
@@ -120,4 +120,4 @@ frame_mask-with_frame image mask handler h small fits masked =
     ap (λ k. word_at (stack_with_frame image mask) k) used
     ∙ word_at-further (stack_with_frame image mask) (in_use image) 36
     ∙ ap (λ xs. word_at xs 36) (drop-stack_with_frame image mask fits)
-    ∙ mask_in_bytes image mask (drop (in_use image + 40) image.stack) h masked
+    ∙ mask_in_bytes image.dat mask (drop (in_use image + 40) image.stack) h masked

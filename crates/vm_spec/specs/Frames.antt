@@ -9,14 +9,14 @@ use Rattle.vm_spec.specs.Image.{Image, word_at, at_place, in_use, with_in_use}
 abbrev pub has_frame_room : Image → Bool
 has_frame_room image = nat_le (in_use image + 40) (length image.stack)
 
--- the bytes of the frame of an image, with the mask to come back
-unfoldable pub frame_bytes : Image → ℕ → List ℕ
-frame_bytes image mask = take 36 image.dat ++ to_le_bytes w32 mask
+-- the bytes of the frame of a data region, with the mask to come back
+unfoldable pub frame_bytes : List ℕ → ℕ → List ℕ
+frame_bytes dat mask = take 36 dat ++ to_le_bytes w32 mask
 
 -- the stack with the frame in the 40 bytes that follow those in use
 unfoldable pub stack_with_frame : Image → ℕ → List ℕ
 stack_with_frame image mask =
-    take (in_use image) image.stack ++ frame_bytes image mask ++ drop (in_use image + 40) image.stack
+    take (in_use image) image.stack ++ frame_bytes image.dat mask ++ drop (in_use image + 40) image.stack
 
 -- The image with a frame pushed, where there is room for it: its handler is next, and 40 more bytes are in use.
 abbrev pub with_frame : Image → ℕ → ℕ → Image
