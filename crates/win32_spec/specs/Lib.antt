@@ -20,3 +20,4 @@ pub mod Run
 pub mod Opening
 pub mod Schedule
 pub mod Driven
+pub mod WellFormed

@@ -1,9 +1,10 @@
 -- Finding and changing processes, threads and objects in a state.
-use Rattle.std.specs.Prelude.{◌≡◌, ℕ, ◌*◌, ◌/◌, ◌<◌, ◌≤◌, Bool, true, false, ◌&&◌, nat_eq, nat_lt, if◌then◌else◌, List, [], ◌∷◌, Option, Some, None, IsSome}
+use Rattle.std.specs.Prelude.{◌≡◌, ℕ, ◌*◌, ◌/◌, ◌<◌, ◌≤◌, Bool, true, false, ◌&&◌, nat_eq, nat_lt, if◌then◌else◌, List, [], ◌∷◌, Option, Some, None, IsSome, slice_index_or}
+use Rattle.tty_spec.specs.Terminal.{Terminal}
 use Rattle.w32_base.specs.declared.call.Call.{Call}
 use Rattle.w32_base.specs.declared.own.Own.{Own}
 use Rattle.win32_spec.specs.Handles.{Handle}
-use Rattle.win32_spec.specs.State.{Object, NumberedObject, Thread, Life, Alive, Ended, Process, Win32State}
+use Rattle.win32_spec.specs.State.{Object, Section, Event, Mutex, Pipe, ProcessObject, TerminalObject, NumberedObject, Thread, Life, Alive, Ended, Process, Win32State}
 
 abbrev pub is_alive : Life → Bool
 is_alive Alive = true
@@ -133,3 +134,36 @@ with_new_object s o object = record s { objects = add_object o object s.objects 
 pub record IsFresh (s : Win32State) (o : ℕ) : Type 0 where
   pub even : object_number o ≡ o
   pub free : object_of s.objects o ≡ None
+
+-- the words of the section, where there is one; an absent word counts as 0
+abbrev pub words_or : Object → Option (List ℕ) → Option (List ℕ)
+words_or (Section words) rest = Some words
+words_or (Event e) rest = rest
+words_or (Mutex owner) rest = rest
+words_or (Pipe bytes) rest = rest
+words_or (ProcessObject v) rest = rest
+words_or (TerminalObject terminal) rest = rest
+
+abbrev pub section_words : List NumberedObject → Option (List ℕ)
+section_words [] = None
+section_words (x ∷ xs) = words_or x.object (section_words xs)
+
+abbrev pub word_in : Option (List ℕ) → ℕ → ℕ
+word_in None i = 0
+word_in (Some words) i = slice_index_or words i 0
+
+abbrev pub section_word : Win32State → ℕ → ℕ
+section_word s i = word_in (section_words s.objects) i
+
+-- the terminal, where there is one
+abbrev pub terminal_or : Object → Option Terminal → Option Terminal
+terminal_or (TerminalObject terminal) rest = Some terminal
+terminal_or (Section words) rest = rest
+terminal_or (Event e) rest = rest
+terminal_or (Mutex owner) rest = rest
+terminal_or (Pipe bytes) rest = rest
+terminal_or (ProcessObject v) rest = rest
+
+abbrev pub terminal_in : List NumberedObject → Option Terminal
+terminal_in [] = None
+terminal_in (x ∷ xs) = terminal_or x.object (terminal_in xs)
