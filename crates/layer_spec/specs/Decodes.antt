@@ -1,17 +1,18 @@
 -- When a state of the modelled Win32 shows the processes of the POSIX machine: by the words of the rows, by the memory of
 -- the live processes that the rows name, and by the terminal.
-use Rattle.std.specs.Prelude.{◌≡◌, ℕ, ◌+◌, ◌≤◌, ◌<◌, Bool, true, false, ◌&&◌, not, nat_eq, if◌then◌else◌, List, [], ◌∷◌, length, map, slice_index, Option, Some, None, IsSome, MatchOption}
+use Rattle.std.specs.Prelude.{◌≡◌, ℕ, ◌+◌, ◌≤◌, ◌<◌, Bool, true, false, ◌&&◌, not, nat_eq, List, [], ◌∷◌, length, map, slice_index, Option, Some, None, IsSome, MatchOption}
 use Rattle.w32_base.specs.declared.own.Own.{Own}
 use Rattle.script_spec.specs.declared.script.Script.{Script}
 use Rattle.vm_spec.specs.Image.{image_of}
 use Rattle.win32_spec.specs.Handles.{is_listed}
-use Rattle.win32_spec.specs.Lookup.{is_alive, process_of}
+use Rattle.win32_spec.specs.Lookup.{is_alive, process_of, terminal_in}
+use Rattle.win32_spec.specs.Placing.{base_in}
 use Rattle.win32_spec.specs.State.{PlacedModule, Process, Win32State}
 use Rattle.posix_spec.specs.State as posix
 use Rattle.posix_spec.specs.State.{Record, PosixState, record_of}
 use Rattle.layer_spec.specs.Rows.{Free, Held, Running, Stopped, Zombie, Gone, RowKind, is_process_kind, is_live_kind, MainWord, GroupWord}
 use Rattle.layer_spec.specs.Decoding.{main_of, group_of}
-use Rattle.layer_spec.specs.Words.{main_at, group_at, terminal_of}
+use Rattle.layer_spec.specs.Words.{main_at, group_at}
 use Rattle.layer_spec.specs.Heap.{HeapChild, HeapFields, IsHeap, heap_bytes}
 
 -- the life that a main word tells, where its row is a process
@@ -26,14 +27,9 @@ life_by Gone stop status = None
 abbrev pub life_of : MainWord → Option posix.Life
 life_of m = life_by m.kind m.stop m.status
 
--- the first page of a module, by its place in the script
-abbrev pub base_of : List PlacedModule → ℕ → Option ℕ
-base_of [] m = None
-base_of (x ∷ xs) m = if nat_eq x.module_no m then Some x.base else base_of xs m
-
 -- each of so many modules is placed at the base with its number, and past them the bases are 0
 pub record AreBases (count : ℕ) (placed : List PlacedModule) (bases : List ℕ) : Type 0 where
-  pub of_modules : (m : ℕ) → m < count → base_of placed m ≡ Some (slice_index bases m)
+  pub of_modules : (m : ℕ) → m < count → base_in placed m ≡ Some (slice_index bases m)
   pub past_modules : (m : ℕ) → count ≤ m → slice_index bases m ≡ 0
 
 abbrev pub child_numbers : List HeapChild → List ℕ
@@ -90,7 +86,7 @@ pub record ShowsRow (script : Script) (memory : Process → Own) (s : Win32State
 pub record DecodesBy (script : Script) (memory : Process → Own) (s : Win32State) (p : PosixState) : Type 0 where
   pub numbers : (n : ℕ) → IsSome (record_of p n) → 2 ≤ n
   pub rows : (row : ℕ) → 1 ≤ row → ShowsRow script memory s p row
-  pub terminal : terminal_of s.objects ≡ Some p.terminal
+  pub terminal : terminal_in s.objects ≡ Some p.terminal
 
 -- the same by the memory that the processes have in this state
 abbrev pub Decodes : Script → Win32State → PosixState → Type 0

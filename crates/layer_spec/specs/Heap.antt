@@ -1,12 +1,12 @@
 -- The cygheap: what a process of the layer keeps in 288 bytes of its own memory, in which its children and its next
 -- images begin.
-use Rattle.std.specs.Prelude.{◌≡◌, ℕ, ◌+◌, ◌-◌, ◌*◌, ◌^◌, Bool, true, false, ◌&&◌, ◌||◌, not, nat_eq, nat_lt, nat_le, List, [], ◌∷◌, ◌++◌, length, map, flat_map, replicate, Option, Some, None}
+use Rattle.std.specs.Prelude.{◌≡◌, ℕ, ◌+◌, ◌-◌, ◌*◌, ◌^◌, Bool, true, false, ◌&&◌, not, nat_eq, nat_lt, nat_le, List, [], ◌∷◌, ◌++◌, length, map, flat_map, replicate, Option, Some, None}
 use Rattle.std.specs.Int.{w16, w32, to_le_bytes}
 use Rattle.std.specs.List.{list_all}
 use Rattle.w32_base.specs.declared.instr.Action.{Action}
 use Rattle.w32_base.specs.declared.instr.Action.TheVariants.{Default, Ignore, Handler}
 use Rattle.layer_spec.specs.Rows.{bit_of}
-use Rattle.layer_spec.specs.Transitions.{has_signal}
+use Rattle.posix_spec.specs.Signals.{clean_mask, is_never_masked}
 
 -- a child: its process number, and whether its death is noted
 pub record HeapChild : Type 0 where
@@ -25,7 +25,7 @@ pub record HeapFields : Type 0 where
 
 -- the ranges of the fields: a mask has no bit 31, and neither KILL nor STOP
 abbrev pub is_mask : ℕ → Bool
-is_mask m = nat_lt m (2 ^ 31) && not (has_signal m 9) && not (has_signal m 19)
+is_mask m = nat_eq (clean_mask m) m
 
 abbrev pub is_saved_mask : Option ℕ → Bool
 is_saved_mask None = true
@@ -39,8 +39,8 @@ is_default (Handler target restart) = false
 -- whether signal s may have an action: KILL and STOP have the default
 abbrev pub is_action : ℕ → Action → Bool
 is_action s Default = true
-is_action s Ignore = not (nat_eq s 9 || nat_eq s 19)
-is_action s (Handler target restart) = not (nat_eq s 9 || nat_eq s 19) && nat_lt target (2 ^ 16)
+is_action s Ignore = not (is_never_masked s)
+is_action s (Handler target restart) = not (is_never_masked s) && nat_lt target (2 ^ 16)
 
 -- the actions of the signals from s on
 abbrev pub are_actions : ℕ → List Action → Bool

@@ -4,7 +4,8 @@
 --     stop signal (56)
 --   group word: raw parent (0), group (12), session (24), terminal (36)
 --   exit word: status (0), image (9), fault (28)
-use Rattle.std.specs.Prelude.{◌≡◌, ℕ, ◌+◌, ◌-◌, ◌*◌, ◌^◌, Bool, true, false, ◌&&◌, ◌||◌, not, nat_eq, nat_lt, nat_le, if◌then◌else◌, Option, Some, None}
+use Rattle.std.specs.Prelude.{◌≡◌, ℕ, ◌+◌, ◌-◌, ◌*◌, ◌^◌, Bool, true, false, ◌&&◌, ◌||◌, not, nat_eq, nat_lt, if◌then◌else◌, Option, Some, None}
+use Rattle.posix_spec.specs.Signals.{is_stop_signal}
 
 -- the places of a row's words in the section; at place 0 stands the number of claimed rows
 abbrev pub main_place : ℕ → ℕ
@@ -115,9 +116,6 @@ abbrev pub is_blank : MainWord → Bool
 is_blank m =
     nat_eq m.stop 0 && nat_eq m.report 0 && not m.execd && nat_eq m.image 0 && nat_eq m.pending 0 && nat_eq m.status 0
 
-abbrev pub is_stopping : ℕ → Bool
-is_stopping s = nat_le 19 s && nat_le s 22
-
 -- the fields that a row of each kind may have
 abbrev pub fits_kind : RowKind → MainWord → Bool
 fits_kind Free m = is_blank m
@@ -126,7 +124,7 @@ fits_kind Running m =
     nat_eq m.stop 0 && (nat_eq m.report 0 || nat_eq m.report 2) && nat_lt m.image (2 ^ 19)
     && nat_lt m.pending (2 ^ 31) && nat_eq m.status 0
 fits_kind Stopped m =
-    is_stopping m.stop && (nat_eq m.report 0 || nat_eq m.report 1) && nat_lt m.image (2 ^ 19)
+    is_stop_signal m.stop && (nat_eq m.report 0 || nat_eq m.report 1) && nat_lt m.image (2 ^ 19)
     && nat_lt m.pending (2 ^ 31) && nat_eq m.status 0
 fits_kind Zombie m =
     nat_eq m.stop 0 && nat_eq m.report 0 && nat_lt m.image (2 ^ 19) && nat_eq m.pending 0 && nat_lt m.status (2 ^ 9)

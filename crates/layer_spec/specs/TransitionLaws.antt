@@ -4,12 +4,12 @@ use Rattle.std.proofs.Common.{refl, subst, arith}
 use Rattle.std.proofs.lemmas.Nat.{or_lt, and_le_l, pow_below}
 use Rattle.std.proofs.lemmas.Bool.{and_parts}
 use Rattle.std.proofs.lemmas.Bool.Decides.{nat_tests}
-use Rattle.posix_spec.specs.Signals.{only, outside, generate, taken_by}
-use Rattle.layer_spec.specs.Rows.{RowKind, Free, Held, Running, Stopped, Zombie, Gone, MainWord, IsMain, fits_kind, is_stopping}
-use Rattle.layer_spec.specs.Transitions.{Op, Hold, Drop, Publish, Post, Probe, Clear, Stop, TakeOver, Seal, Report, Reap, Collect, trans, is_op, has_signal, is_signal, held, gone, published, posted, woken, without, cleared, stopped, sealed, reported, taken_over, by_kind}
+use Rattle.posix_spec.specs.Signals.{is_signal, only, contains, outside, continue_signal, is_stop_signal, generate, taken_by}
+use Rattle.layer_spec.specs.Rows.{RowKind, Free, Held, Running, Stopped, Zombie, Gone, MainWord, IsMain, fits_kind}
+use Rattle.layer_spec.specs.Transitions.{Op, Hold, Drop, Publish, Post, Probe, Clear, Stop, TakeOver, Seal, Report, Reap, Collect, trans, is_op, held, gone, published, posted, woken, without, cleared, stopped, sealed, reported, taken_over, by_kind}
 
 pub only_below : (s : ℕ) → is_signal s ≡ true → only s < 2 ^ 31
-only_below s h = let below : s - 1 < 31 = grind (arith, nat_tests) in pow_below (s - 1) 31 below
+only_below s h = let below : s - 1 < 31 = grind (arith, nat_tests) in rw h (pow_below (s - 1) 31 below)
 
 pub outside_below : (set other : ℕ) → set < 2 ^ 31 → outside set other < 2 ^ 31
 outside_below set other h = omega (arith, and_le_l set (2 ^ 31 - 1 - bit_and other (2 ^ 31 - 1)))
@@ -71,23 +71,23 @@ continued m pending h below = grind (arith, nat_tests)
 pub woken_legal : (m : MainWord) (s : ℕ) → IsMain m → is_signal s ≡ true → m.kind ≡ Stopped → IsMain (woken m s)
 woken_legal m s h op k = let f = fits Stopped m h k in
     let below = generate_below m.pending s op (stopped_below m f) in
-    one_of_legal (nat_eq s 18) (record (posted m s) { kind = Running; report = 2; stop = 0 }) (posted m s)
+    one_of_legal (nat_eq s continue_signal) (record (posted m s) { kind = Running; report = 2; stop = 0 }) (posted m s)
         (continued m (generate m.pending s) f below) (rw k (stopped_with m (generate m.pending s) f below))
 
 pub cleared_legal : (m : MainWord) (s : ℕ) → IsMain m → m.kind ≡ Running → IsLegal (cleared m s)
 cleared_legal m s h k = let f = fits Running m h k in
-    legal_where (has_signal m.pending s) (without m s)
+    legal_where (contains m.pending s) (without m s)
         (λ _. rw k (running_with m (outside m.pending (only s)) f (outside_below m.pending (only s) (running_below m f))))
 
 -- a running row that a signal stops
-pub stopping : (m : MainWord) (s pending : ℕ) → fits_kind Running m ≡ true → is_stopping s ≡ true → pending < 2 ^ 31
+pub stopping : (m : MainWord) (s pending : ℕ) → fits_kind Running m ≡ true → is_stop_signal s ≡ true → pending < 2 ^ 31
     → fits_kind Stopped (record m { kind = Stopped; pending = pending; report = 1; stop = s }) ≡ true
 stopping m s pending h stops below = grind (arith, nat_tests)
 
 pub stopped_legal : (m : MainWord) (s : ℕ) → IsMain m → m.kind ≡ Running → IsLegal (stopped m s)
 stopped_legal m s h k = let f = fits Running m h k in
-    legal_where (is_stopping s && has_signal m.pending s) (record (without m s) { kind = Stopped; stop = s; report = 1 })
-        (λ b. stopping m s (outside m.pending (only s)) f (and_parts (is_stopping s) (has_signal m.pending s) b).0
+    legal_where (is_stop_signal s && contains m.pending s) (record (without m s) { kind = Stopped; stop = s; report = 1 })
+        (λ b. stopping m s (outside m.pending (only s)) f (and_parts (is_stop_signal s) (contains m.pending s) b).0
             (outside_below m.pending (only s) (running_below m f)))
 
 pub published_legal : (image : ℕ) → nat_lt image (2 ^ 19) ≡ true → IsMain (published image)

@@ -1,7 +1,7 @@
 -- How the main word of a row may change.
-use Rattle.std.specs.Prelude.{ℕ, ◌^◌, Bool, true, false, ◌&&◌, not, nat_eq, nat_lt, nat_le, if◌then◌else◌, Option, Some, None, bit_and}
-use Rattle.posix_spec.specs.Signals.{only, outside, generate}
-use Rattle.layer_spec.specs.Rows.{RowKind, Free, Held, Running, Stopped, Zombie, Gone, MainWord, is_stopping}
+use Rattle.std.specs.Prelude.{ℕ, ◌^◌, Bool, true, false, ◌&&◌, nat_eq, nat_lt, if◌then◌else◌, Option, Some, None}
+use Rattle.posix_spec.specs.Signals.{is_signal, only, contains, outside, continue_signal, is_stop_signal, generate}
+use Rattle.layer_spec.specs.Rows.{RowKind, Free, Held, Running, Stopped, Zombie, Gone, MainWord}
 
 -- A change: a claimed row is held; it is dropped, or published with an image. A signal is posted, only looked for,
 -- taken away, or stops the process. Another image takes over. The process dies with a status. Its stop or its continue
@@ -24,28 +24,24 @@ pub data Op : Type 0 where
 abbrev pub blank : RowKind → MainWord
 blank kind = record { kind = kind; stop = 0; report = 0; execd = false; image = 0; pending = 0; status = 0 }
 
--- whether signal s is in a set
-abbrev pub has_signal : ℕ → ℕ → Bool
-has_signal set s = not (nat_eq (bit_and set (only s)) 0)
-
 abbrev pub posted : MainWord → ℕ → MainWord
 posted m s = record m { pending = generate m.pending s }
 
 -- a stopped process to which a signal is posted: CONT makes it run again
 abbrev pub woken : MainWord → ℕ → MainWord
-woken m s = if nat_eq s 18 then record (posted m s) { kind = Running; report = 2; stop = 0 } else posted m s
+woken m s = if nat_eq s continue_signal then record (posted m s) { kind = Running; report = 2; stop = 0 } else posted m s
 
 abbrev pub without : MainWord → ℕ → MainWord
 without m s = record m { pending = outside m.pending (only s) }
 
 -- without a signal, where it is pending
 abbrev pub cleared : MainWord → ℕ → Option MainWord
-cleared m s = if has_signal m.pending s then Some (without m s) else None
+cleared m s = if contains m.pending s then Some (without m s) else None
 
 -- stopped by a signal, where it is pending and one that stops
 abbrev pub stopped : MainWord → ℕ → Option MainWord
 stopped m s =
-    if is_stopping s && has_signal m.pending s then Some (record (without m s) { kind = Stopped; stop = s; report = 1 })
+    if is_stop_signal s && contains m.pending s then Some (record (without m s) { kind = Stopped; stop = s; report = 1 })
     else None
 
 abbrev pub sealed : MainWord → ℕ → MainWord
@@ -92,9 +88,6 @@ trans m (Seal status) = by_kind m.kind None None (Some (sealed m status)) (Some 
 trans m Report = by_kind m.kind None None (reported m 2) (reported m 1) None None
 trans m Reap = by_kind m.kind None None None None (Some gone) None
 trans m Collect = by_kind m.kind None None None None (Some gone) None
-
-abbrev pub is_signal : ℕ → Bool
-is_signal s = nat_le 1 s && nat_le s 31
 
 -- whether the numbers of a change are in range: signals 1 to 31, images of 19 bits, statuses of 9 bits
 abbrev pub is_op : Op → Bool
