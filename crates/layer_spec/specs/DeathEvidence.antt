@@ -5,12 +5,12 @@ use Rattle.w32_base.specs.declared.call.Reply.TheVariants as reply
 use Rattle.w32_base.specs.declared.event.Death.{Death}
 use Rattle.w32_base.specs.declared.event.Death.TheVariants as death
 use Rattle.w32_base.specs.declared.entry.Outcome.TheVariants as outcome
-use Rattle.w32_base.specs.declared.instr.Action.TheVariants as action
 use Rattle.win32_spec.specs.State.{Win32State}
 use Rattle.win32_spec.specs.Named.{object_by, process_named}
+use Rattle.win32_spec.specs.Run.{ended_from_outside}
 use Rattle.posix_spec.specs.State.{Record, record_of}
-use Rattle.posix_spec.specs.Signals.{ByDefault, End, default_of}
-use Rattle.posix_spec.specs.Pending.{deliverable, action_of}
+use Rattle.posix_spec.specs.Pending.{deliverable, ends}
+use Rattle.posix_spec.specs.DeathSteps.{signal_status}
 use Rattle.layer_spec.specs.Decoding.{exit_fields}
 use Rattle.layer_spec.specs.Rows.{ExitWord}
 use Rattle.layer_spec.specs.Words.{exit_at, row_of}
@@ -28,21 +28,21 @@ pub record ExitWordTells (s : Win32State) (p : ℕ) (v : ℤ) (fault : Bool) : T
   pub status : v ≡ pos (exit_told s p).status
   pub by_fault : (exit_told s p).fault ≡ fault
 
--- In the moment before an entry this signal was p's deliverable one, and by default it ends p.
+-- In the moment before an entry this signal was p's deliverable one, its action was the default, and this ends a process.
 pub record WasDeadly {A : Type 0} (p signal : ℕ) (x : Seen A) : Type 0 where
   pub record_then : Record
   pub known : record_of x.before.posix p ≡ Some record_then
   pub first : deliverable record_then ≡ Some signal
-  pub action : action_of record_then signal ≡ action.Default
-  pub by_default : default_of signal ≡ End
+  pub by_default : ends record_then signal ≡ true
 
--- It was so in a moment after p's previous own event: in the one right after it, or in a later one up to this step.
+-- It was so in a moment after p's previous own event: the one right after it, or a later one up to that before this step.
 pub record IsBySignal {A : Type 0} (step : HistoryStep A) (p : ℕ) (v : ℤ) : Type 0 where
   pub signal : ℕ
-  pub status : v ≡ pos (256 + signal)
+  pub status : v ≡ pos (signal_status signal)
   pub seen : SomeSeen (WasDeadly p signal) (call_up_to step p)
 
--- The entry with this number is an `end` that ended the process that p's main word names, and the exit word doesn't carry it.
+-- The entry with this number is an `end` that ended the process that p's main word names, and the exit word doesn't carry
+-- that process.
 pub record IsByWorld {A : Type 0} (step : HistoryStep A) (p : ℕ) (n : ℤ) : Type 0 where
   pub number : ℕ
   pub told : n ≡ pos number
@@ -58,7 +58,8 @@ DeathIsTrue step p v death.Signal = ExitWordTells step.before.win32 p v false ×
 DeathIsTrue step p v death.Fault = ExitWordTells step.before.win32 p v true
 DeathIsTrue step p v (death.World n) = IsByWorld step p n
 
--- The host asks for the code of Win32 process 2 and is answered n, which is 65,536 exactly where an `end` ended that process.
+-- The host asks for the code of Win32 process 2 and is answered n, which is 65,536 exactly where an `end` ended that
+-- process.
 pub record HostReadsStatus {A : Type 0} (step : HistoryStep A) (n : ℤ) : Type 0 where
   pub handle : ℕ
   pub code : ℕ
@@ -66,7 +67,7 @@ pub record HostReadsStatus {A : Type 0} (step : HistoryStep A) (n : ℤ) : Type 
   pub names : process_named (object_by step.before.win32 1 handle) ≡ Some 2
   pub answered : step.entry.outcome ≡ outcome.Step (reply.Code code)
   pub told : n ≡ pos code
-  pub outside : (code ≡ 65536) ↔ (was_ended step.past 2 ≡ true)
+  pub outside : (code ≡ ended_from_outside) ↔ (was_ended step.past 2 ≡ true)
 
 -- The process that the main word of a reaped child names has ended.
 pub record ReapedHasEnded {A : Type 0} (step : HistoryStep A) (c : ℤ) : Type 0 where

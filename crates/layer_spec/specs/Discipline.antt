@@ -1,5 +1,5 @@
 -- What every entry of a journal keeps, with an event or without.
-use Rattle.std.specs.Prelude.{◌≡◌, ℕ, ◌+◌, ◌*◌, ◌<◌, ◌↔◌, Bool, true, false, ◌&&◌, nat_eq, if◌then◌else◌, List, [], ◌∷◌, length, Option, Some, None}
+use Rattle.std.specs.Prelude.{◌≡◌, ℕ, ◌+◌, ◌<◌, ◌↔◌, Bool, true, false, ◌&&◌, nat_eq, if◌then◌else◌, List, [], ◌∷◌, length, Option, Some, None}
 use Rattle.std.specs.List.{list_any}
 use Rattle.w32_base.specs.declared.call.Call.{Call}
 use Rattle.w32_base.specs.declared.call.Call.TheVariants as call
@@ -13,8 +13,10 @@ use Rattle.w32_base.specs.declared.entry.Entry.{Entry}
 use Rattle.w32_base.specs.declared.instr.Instr.TheVariants as instr
 use Rattle.script_spec.specs.declared.script.Script.{Script}
 use Rattle.vm_spec.specs.Step.{Upcoming, LocalInstruction, CallInstruction, ImageFault}
-use Rattle.posix_spec.specs.State.{Life, Running, Stopped, Zombie, Record, record_of}
+use Rattle.posix_spec.specs.State.{Running, Record, record_of}
+use Rattle.posix_spec.specs.Pending.{is_live}
 use Rattle.posix_spec.specs.Conditions.{next_of}
+use Rattle.layer_spec.specs.Rows.{exit_place}
 use Rattle.layer_spec.specs.Words.{word_in}
 use Rattle.layer_spec.specs.Moment.{Seen, HistoryStep}
 use Rattle.layer_spec.specs.Owners.{seen_in_call}
@@ -79,7 +81,8 @@ pub record StandsOnce {A : Type 0} (script : Script) (step : HistoryStep A) (is_
 abbrev pub modules_asked : {A : Type 0} → List (Seen A) → ℕ → ℕ
 modules_asked [] w = 0
 modules_asked (x ∷ past) w =
-    (if is_module x.entry.call && is_process_turn x.before.win32 x.entry.directive w then 1 else 0) + modules_asked past w
+    (if is_module x.entry.call && is_process_turn x.before.win32 x.entry.directive w then 1 else 0)
+    + modules_asked past w
 
 -- the script's modules are asked for in their order, each once
 pub record AsksInOrder {A : Type 0} (script : Script) (step : HistoryStep A) (w m : ℕ) : Type 0 where
@@ -94,25 +97,21 @@ pub record TakesKey (e : Entry) (b : ℕ) : Type 0 where
   pub asks : e.call ≡ Some (call.Tty handle tty.Key)
   pub answered : e.outcome ≡ outcome.Step (reply.Key b signal group)
 
--- whether a process is Running or Stopped
-abbrev pub is_live_life : Life → Bool
-is_live_life Running = true
-is_live_life (Stopped signal) = true
-is_live_life (Zombie status) = false
-
 -- Every entry keeps this. A process is made only in an own turn of a running process while a fork or an exec is next
--- there, and a row is claimed, by an add of 1 to word 0, only in such a turn while a fork is next, each at most once in a
--- call. No compare-exchange changes word 0, and no word of a row above the script's last one changes. A process asks for
--- the script's modules in their order. Only an `end` ends a process that the main word of a Running or Stopped record
--- names. A key is taken exactly where the event says so.
+-- there, and a row is claimed, by an add of 1 to word 0, only in such a turn while a fork is next, each at most once in
+-- a call. No compare-exchange changes word 0, and no word of a row above the script's last one changes. A process asks
+-- for the script's modules in their order. Only an `end` ends a process that the main word of a Running or Stopped
+-- record names. A key is taken exactly where the event says so.
 pub record KeepsDiscipline {A : Type 0} (script : Script) (step : HistoryStep A) : Type 0 where
   pub creates : is_create step.entry.call ≡ true → StandsOnce script step is_fork_or_exec is_create
-  pub claims : is_claim step.entry.call ≡ true → (adds_one step.entry.call ≡ true) × StandsOnce script step is_fork is_claim
+  pub claims : is_claim step.entry.call ≡ true
+      → (adds_one step.entry.call ≡ true) × StandsOnce script step is_fork is_claim
   pub claimed : is_exchange step.entry.call ≡ true → word_in step.after.win32 0 ≡ word_in step.before.win32 0
-  pub above : (i : ℕ) → 3 * script.setup.limits.rows < i → word_in step.after.win32 i ≡ word_in step.before.win32 i
-  pub modules : (w m : ℕ) → step.entry.call ≡ Some (call.Module m) → is_process_turn step.before.win32 step.entry.directive w ≡ true
-      → AsksInOrder script step w m
+  pub above : (i : ℕ) → exit_place script.setup.limits.rows < i
+      → word_in step.after.win32 i ≡ word_in step.before.win32 i
+  pub modules : (w m : ℕ) → step.entry.call ≡ Some (call.Module m)
+      → is_process_turn step.before.win32 step.entry.directive w ≡ true → AsksInOrder script step w m
   pub lives : is_end step.entry.directive ≡ false → (p : ℕ) (r : Record) → record_of step.before.posix p ≡ Some r
-      → is_live_life r.life ≡ true → is_live_process step.before.win32 (image_named step.before.win32 p) ≡ true
+      → is_live r.life ≡ true → is_live_process step.before.win32 (image_named step.before.win32 p) ≡ true
       → is_live_process step.after.win32 (image_named step.before.win32 p) ≡ true
   pub keys : (p b : ℕ) → (step.entry.event ≡ Some (event.Key p b)) ↔ ((p ≡ 0) × TakesKey step.entry b)

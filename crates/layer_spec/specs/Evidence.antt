@@ -30,7 +30,8 @@ StandsInPlace step (MainThread p) = is_turn_of_image step p 0 ≡ true
 StandsInPlace step (MainOrSignalThread p) = (is_turn_of_image step p 0 || is_turn_of_image step p 1) ≡ true
 StandsInPlace step Console = step.entry.directive ≡ directive.Turn 0 0
 StandsInPlace step Starter = step.entry.directive ≡ directive.Turn 0 1
-StandsInPlace step (Acting p) = MatchBool (nat_eq p 0) (step.entry.directive ≡ directive.Turn 0 0) (is_turn_of_image step p 0 ≡ true)
+StandsInPlace step (Acting p) =
+    MatchBool (nat_eq p 0) (step.entry.directive ≡ directive.Turn 0 0) (is_turn_of_image step p 0 ≡ true)
 StandsInPlace step AnyThread = Unit {0}
 
 -- The place of each event, and what is shown beside it.

@@ -17,7 +17,8 @@ use Rattle.layer_spec.specs.History.{IsHistory}
 abbrev pub IsScheduledTo : {A : Type 0} → Script → List (Seen A) → Position → Type 0
 IsScheduledTo script [] at = at ≡ opening_position script.directives
 IsScheduledTo script (x ∷ past) at =
-    (from : Position) × IsScheduledTo script past from × GivesNext x.before.win32 from from.lines x.entry.directive at
+    (from : Position) × IsScheduledTo script past from
+    × GivesNext x.before.win32 from from.lines x.entry.directive at
 
 -- The schedule is followed to its end, or to the budget.
 pub record FollowsSchedule {A : Type 0} (script : Script) (past : List (Seen A)) (now : Moment A) (end : End) : Type 0 where

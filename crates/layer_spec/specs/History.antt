@@ -19,8 +19,8 @@ use Rattle.layer_spec.specs.Moment.{Moment, Seen, HistoryStep}
 use Rattle.layer_spec.specs.Discipline.{KeepsDiscipline}
 use Rattle.layer_spec.specs.Evidence.{HasEvidence}
 
--- A part doesn't know the number of the entry that ended an image: the event that it gives has 0 there. Every other event
--- is as the part gave it.
+-- A part doesn't know the number of the entry that ended an image: the event that it gives has 0 there. Every other
+-- event is as the part gave it.
 abbrev pub death_given : Death → Death
 death_given death.Exit = death.Exit
 death_given death.Signal = death.Signal
@@ -43,9 +43,10 @@ driven_at m given = record { win32 = m.win32; parts = m.parts; last = given }
 module _ {A : Type 0} (posted_of : A → Call) (goes : A → Own → Setup → Reply → A → Own → After → Type 0)
     (opening : A → Type 0) (slot_of thread_of : A → ℕ) where
 
-  -- One step. The entry is a step of the Win32 machine. The thread whose turn it is goes with its own part, whose event the
-  -- entry's is; all other parts of live processes stay. The event is a step of the POSIX machine, and without an event its
-  -- state stays. The entry keeps the discipline and has its event's evidence. After it rows and images show the POSIX state.
+  -- One step. The entry is a step of the Win32 machine. The thread whose turn it is goes with its own part, whose event
+  -- the entry's is; all other parts of live processes stay. The event is a step of the POSIX machine, and without an
+  -- event its state stays. The entry keeps the discipline, and shows what its event needs. After it rows and images show
+  -- the POSIX state.
   pub record IsHistoryStep (script : Script) (step : HistoryStep A) : Type 0 where
     pub win32 : DirectiveStep script step.before.win32 step.entry step.after.win32
     pub driven : DrivenBy posted_of goes opening slot_of thread_of script (driven_at step.before None)
@@ -56,14 +57,15 @@ module _ {A : Type 0} (posted_of : A → Call) (goes : A → Own → Setup → R
     pub evidence : MatchOption step.entry.event (Unit {0}) (λ told. HasEvidence script step told)
     pub decodes : Decodes script step.after.win32 step.after.posix
 
-  -- the moment in which a run of this script begins: both machines open, each thread has a part that was just opened, and
-  -- rows and images show the POSIX state
+  -- the moment in which a run of this script begins: both machines open, each thread has a part that was just opened,
+  -- and rows and images show the POSIX state
   pub record IsOpeningMoment (script : Script) (now : Moment A) : Type 0 where
     pub driven : IsDrivenOpening posted_of goes opening slot_of thread_of script (driven_at now None)
     pub posix : now.posix ≡ opening_of script
     pub decodes : Decodes script now.win32 now.posix
 
-  -- What was seen, the last first, and the moment now: nothing before the opening moment, or one more step after a history.
+  -- What was seen, the last first, and the moment now: nothing before the opening moment, or one more step after a
+  -- history.
   abbrev pub IsHistory : Script → List (Seen A) → Moment A → Type 0
   IsHistory script [] now = IsOpeningMoment script now
   IsHistory script (x ∷ past) now =

@@ -23,9 +23,10 @@ IsWritten step p w region =
     (place : ℕ) → place < length (region_of (memory_by step.before.win32 (image_named step.before.win32 p)) region)
     → SomeSeen (WritesPlace p w region place) (call_up_to step p)
 
--- The new process w has placed its modules, those before the m-th, where p's are.
+-- Process w has placed each module before the script's m-th where p has it.
 abbrev pub ArePlacedAlike : {A : Type 0} → HistoryStep A → (p w m : ℕ) → Type 0
-ArePlacedAlike step p w m = (k : ℕ) → k < m → SomeSeen (PlacesModule w k (base_wanted step.before.win32 p k)) (seen_with step)
+ArePlacedAlike step p w m =
+    (k : ℕ) → k < m → SomeSeen (PlacesModule w k (base_wanted step.before.win32 p k)) (seen_with step)
 
 -- After a fork the child's row names a process that the parent made in this call. The child's number is that of the row
 -- that the parent claimed in this call. The process has placed each module of the script where the parent has it. Each

@@ -17,7 +17,8 @@ pub record Seen (A : Type 0) : Type 0 where
   pub before : Moment A
   pub entry : Entry
 
--- One step of a history: what was seen before it, the last first, the moment before it, its entry, and the moment after it.
+-- One step of a history: what was seen before it, the last first, the moment before it, its entry, and the moment after
+-- it.
 pub record HistoryStep (A : Type 0) : Type 0 where
   pub past : List (Seen A)
   pub before : Moment A

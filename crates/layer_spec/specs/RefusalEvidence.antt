@@ -1,4 +1,4 @@
--- What shows the cause of a refusal that a process's own state doesn't decide: EAGAIN of fork and exec, and ENOENT of exec
+-- What shows the cause of a refusal that no process's own state decides: EAGAIN of fork and exec, and ENOENT of exec
 -- (POSIX.1-2017, XSH fork, exec).
 use Rattle.std.specs.Prelude.{◌≡◌, ◌≢◌, ℕ, ◌≤◌, ◌<◌, ℤ, pos, true, false, List, Some, slice_get}
 use Rattle.w32_base.specs.Names.{is_among}
@@ -26,7 +26,8 @@ pub record AreRowsClaimed {A : Type 0} (script : Script) (step : HistoryStep A) 
   pub all : script.setup.limits.rows ≤ claimed
 
 -- The process that p made in this call placed this module elsewhere than p, and no module before it, and it has ended.
-pub record IsPlacedElsewhere {A : Type 0} (script : Script) (step : HistoryStep A) (p : ℕ) (name : List ℕ) (found wanted : ℤ) : Type 0 where
+pub record IsPlacedElsewhere {A : Type 0} (script : Script) (step : HistoryStep A) (p : ℕ) (name : List ℕ)
+    (found wanted : ℤ) : Type 0 where
   pub child : ℕ
   pub made : HasMade p child (call_up_to step p)
   pub place : ℕ
