@@ -50,8 +50,8 @@ is_background s r = not (nat_eq r.group s.terminal.foreground)
 abbrev pub is_blocked_or_ignored : Record → ℕ → Bool
 is_blocked_or_ignored r signal = contains r.mask signal || is_ignore (action_of r signal)
 
--- The rule for a process in the background. `kept` is what happens where the signal is blocked or ignored. Else the call
--- of an orphaned group is refused, and any other first sends the signal.
+-- The rule for a process in the background. `kept` is what happens where the signal is blocked or ignored. Else the
+-- call of an orphaned group is refused, and any other first sends the signal.
 abbrev pub background_rule : PosixState → Record → ℕ → Check → Check
 background_rule s r signal kept =
     if not (is_background s r) then Allowed
@@ -100,4 +100,5 @@ count_of (negsuc n) = 0
 -- a read waits where it would take bytes, in the foreground, and no line is done
 abbrev pub can_block_in_read : PosixState → Record → Operand → Bool
 can_block_in_read s r count =
-    r.terminal && (not (is_background s r) && (not (nat_eq (count_of (value_of r.image count)) 0) && not (has_line s.terminal)))
+    r.terminal && (not (is_background s r)
+    && (not (nat_eq (count_of (value_of r.image count)) 0) && not (has_line s.terminal)))

@@ -1,6 +1,6 @@
 -- What an event of a process's own needs of it, and what it does to its notes.
 -- An own event is one whose first number is the process's, but discard, notify, collect and die.
-use Rattle.std.specs.Prelude.{ℕ, ℤ, Bool, true, false, ◌&&◌, ◌||◌, not, if◌then◌else◌, List, [], Option, Some, None, slice_get}
+use Rattle.std.specs.Prelude.{ℕ, ℤ, Bool, true, false, ◌&&◌, not, if◌then◌else◌, List, [], Option, Some, None, slice_get}
 use Rattle.w32_base.specs.declared.instr.Instr.{Instr}
 use Rattle.w32_base.specs.declared.instr.Instr.TheVariants as instr
 use Rattle.w32_base.specs.declared.setup.Program.{Program}
@@ -68,8 +68,8 @@ for_call script s p step = for_process s p (λ r. for_value (own_call script r) 
 abbrev pub for_group_step : Script → PosixState → ℕ → (Record → Instr → Option PosixState) → Option PosixState
 for_group_step script s p step = for_process s p (λ r. for_value (group_step_call script r) (step r))
 
--- After each own event nothing counts as lost. Signals go first where one is deliverable, but not after look, member and
--- background, which stand inside a call.
+-- After each own event nothing counts as lost. Signals go first where one is deliverable, but not after look, member
+-- and background, which stand inside a call.
 abbrev pub inside_call : Record → Record
 inside_call r = record r { lost = 0 }
 

@@ -1,5 +1,5 @@
 -- The console, which takes keys and sends their signals to the foreground group (POSIX.1-2017, XBD 11.1.9).
-use Rattle.std.specs.Prelude.{ℕ, Bool, ◌&&◌, nat_eq, if◌then◌else◌, is_none, ◌++◌, Option, Some, None}
+use Rattle.std.specs.Prelude.{ℕ, ◌&&◌, nat_eq, if◌then◌else◌, is_none, ◌++◌, Option, Some, None}
 use Rattle.w32_base.specs.declared.event.Answer.{Answer}
 use Rattle.tty_spec.specs.Discipline.{KeyTaken, after_key}
 use Rattle.posix_spec.specs.Numbers.{for_value}

@@ -58,7 +58,7 @@ fork_step script s p c r instr.Fork =
     else None
 fork_step script s p c r _ = None
 
--- forkfail P CAUSE: EAGAIN. `children` stands exactly where P has 32 of them; what the other causes need isn't seen here.
+-- forkfail P CAUSE: EAGAIN. `children` stands exactly where P has 32 of them; this state shows no other cause.
 
 abbrev pub is_fork_cause : PosixState → ℕ → ForkCause → Bool
 is_fork_cause s p fork_cause.Children = nat_eq (length (children s p)) most_children

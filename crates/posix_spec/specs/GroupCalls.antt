@@ -1,5 +1,5 @@
 -- Calls for a group, which take one step a member.
-use Rattle.std.specs.Prelude.{ℕ, ◌+◌, ℤ, pos, negsuc, Bool, true, false, ◌&&◌, not, nat_eq, nat_le, if◌then◌else◌, Option, Some, None}
+use Rattle.std.specs.Prelude.{ℕ, ◌+◌, ℤ, pos, negsuc, Bool, true, false, ◌&&◌, not, nat_eq, if◌then◌else◌, Option, Some, None}
 use Rattle.std.specs.List.{list_all}
 use Rattle.std.specs.FinSet as set
 use Rattle.w32_base.specs.declared.event.Answer.{Answer}
@@ -8,7 +8,7 @@ use Rattle.w32_base.specs.declared.event.Errno.TheVariants as errno
 use Rattle.w32_base.specs.declared.instr.Instr.{Instr}
 use Rattle.w32_base.specs.declared.instr.Instr.TheVariants as instr
 use Rattle.vm_spec.specs.Image.{value_of}
-use Rattle.posix_spec.specs.Numbers.{natural_within, is_number, is_same_answer}
+use Rattle.posix_spec.specs.Numbers.{natural_within, is_same_answer}
 use Rattle.posix_spec.specs.State.{GroupCall, CallInProgress, NoCall, WaitCall, ForGroup, Record, PosixState, record_of}
 use Rattle.posix_spec.specs.Records.{members}
 use Rattle.posix_spec.specs.Groups.{is_member, has_member}
@@ -88,4 +88,5 @@ group_answer s call = if has_member s call.group then Zero else Error errno.ESRC
 -- whether the call ends with this group, signal and answer
 abbrev pub ends_with : PosixState → GroupCall → ℕ → ℕ → Answer → Bool
 ends_with s call g signal answer =
-    nat_eq g call.group && (nat_eq signal call.signal && (is_complete s call && is_same_answer answer (group_answer s call)))
+    nat_eq g call.group && (nat_eq signal call.signal
+    && (is_complete s call && is_same_answer answer (group_answer s call)))

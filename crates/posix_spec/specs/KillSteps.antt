@@ -1,5 +1,5 @@
 -- Signals that a process sends (POSIX.1-2017, XSH kill).
-use Rattle.std.specs.Prelude.{ℕ, ℤ, pos, negsuc, Bool, true, false, ◌&&◌, nat_eq, if◌then◌else◌, Option, Some, None, is_some}
+use Rattle.std.specs.Prelude.{ℕ, ℤ, pos, negsuc, Bool, false, ◌&&◌, nat_eq, if◌then◌else◌, Option, Some, None, is_some}
 use Rattle.w32_base.specs.declared.event.Answer.{Answer}
 use Rattle.w32_base.specs.declared.event.Answer.TheVariants.{Zero, Error}
 use Rattle.w32_base.specs.declared.event.Errno.TheVariants as errno

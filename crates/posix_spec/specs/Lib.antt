@@ -23,3 +23,4 @@ pub mod ConsoleSteps
 pub mod Step
 pub mod Opening
 pub mod Run
+pub mod Waiting

@@ -1,5 +1,5 @@
 -- Blocks of local instructions, and the calls that tell a process of itself.
-use Rattle.std.specs.Prelude.{ℕ, ℤ, pos, Bool, ◌&&◌, nat_eq, if◌then◌else◌, Option, Some, None, nat_lt}
+use Rattle.std.specs.Prelude.{ℕ, ℤ, Bool, ◌&&◌, if◌then◌else◌, Option, Some, None, nat_lt}
 use Rattle.w32_base.specs.declared.event.Field.{Field}
 use Rattle.w32_base.specs.declared.event.Field.TheVariants as field
 use Rattle.w32_base.specs.declared.instr.Instr.{Instr}
@@ -25,7 +25,8 @@ abbrev pub run_step : Script → PosixState → ℕ → ℤ → Record → Optio
 run_step script s p n r =
     if may_act script r then run_block_step script s p n (block_length (code_of script r.image) r.image) else None
 
--- get P FIELD V: V is the value now, and the call's result (POSIX.1-2017, XSH getpid, getppid, getpgrp, getsid, tcgetpgrp)
+-- get P FIELD V: V is the value now, and the call's result (POSIX.1-2017, XSH getpid, getppid, getpgrp, getsid and
+-- tcgetpgrp)
 
 abbrev pub foreground_of : PosixState → Bool → Option ℕ
 foreground_of s has_terminal = if has_terminal then Some s.terminal.foreground else None

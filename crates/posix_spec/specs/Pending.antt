@@ -1,5 +1,5 @@
 -- Which signals may act on a process, and what they do (POSIX.1-2017, XSH 2.4).
-use Rattle.std.specs.Prelude.{ℕ, ◌-◌, Bool, true, false, ◌&&◌, Option, Some, None, is_some, slice_get, slice_set, bit_and, bit_or}
+use Rattle.std.specs.Prelude.{ℕ, ◌-◌, Bool, true, false, ◌&&◌, Option, is_some, slice_get, slice_set, bit_and, bit_or}
 use Rattle.std.specs.Option.{unwrap_or}
 use Rattle.std.specs.List.{list_any}
 use Rattle.w32_base.specs.declared.instr.Action.{Action}

@@ -1,5 +1,5 @@
 -- The checks of every call before its event, and the refusals that have no event of their own.
-use Rattle.std.specs.Prelude.{ℕ, Bool, if◌then◌else◌, Option, Some, None, is_some}
+use Rattle.std.specs.Prelude.{ℕ, if◌then◌else◌, Option, Some, None, is_some}
 use Rattle.w32_base.specs.declared.event.Errno.{Errno}
 use Rattle.w32_base.specs.declared.event.Errno.TheVariants as errno
 use Rattle.w32_base.specs.declared.instr.Instr.{Instr}

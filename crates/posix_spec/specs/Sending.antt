@@ -1,5 +1,5 @@
 -- Signals that are sent, and what a parent is owed for it (POSIX.1-2017, XSH 2.4).
-use Rattle.std.specs.Prelude.{ℕ, ◌+◌, ◌-◌, Bool, ◌&&◌, nat_eq, if◌then◌else◌, Option, Some, None, bit_or}
+use Rattle.std.specs.Prelude.{ℕ, ◌+◌, ◌&&◌, nat_eq, if◌then◌else◌, Option, Some, None, bit_or}
 use Rattle.posix_spec.specs.Signals.{generate, lost_by, continue_signal}
 use Rattle.posix_spec.specs.State.{Life, Running, Stopped, Zombie, Record, PosixState, record_of}
 use Rattle.posix_spec.specs.Pending.{is_stopped, is_live}

@@ -1,5 +1,5 @@
 -- The calls on a process's mask and actions (POSIX.1-2017, XSH sigprocmask, sigaction and sigsuspend).
-use Rattle.std.specs.Prelude.{ℕ, ℤ, pos, Bool, true, false, ◌&&◌, ◌||◌, not, nat_eq, if◌then◌else◌, Option, Some, None, bit_or}
+use Rattle.std.specs.Prelude.{ℕ, ℤ, pos, Bool, true, false, ◌&&◌, not, nat_eq, if◌then◌else◌, Option, Some, None, bit_or}
 use Rattle.std.specs.Int.{w32, cast_unsigned}
 use Rattle.w32_base.specs.declared.event.Errno.TheVariants as errno
 use Rattle.w32_base.specs.declared.event.NewAction.{NewAction}
@@ -10,7 +10,7 @@ use Rattle.w32_base.specs.declared.instr.Instr.{Instr}
 use Rattle.w32_base.specs.declared.instr.Instr.TheVariants as instr
 use Rattle.w32_base.specs.declared.instr.MaskChange.{MaskChange}
 use Rattle.w32_base.specs.declared.instr.MaskChange.TheVariants as change
-use Rattle.vm_spec.specs.Image.{Image, value_of}
+use Rattle.vm_spec.specs.Image.{value_of}
 use Rattle.vm_spec.specs.Frames.{without_frame, frame_mask}
 use Rattle.posix_spec.specs.Numbers.{is_number, natural_of}
 use Rattle.posix_spec.specs.Signals.{outside, clean_mask, is_signal, is_never_masked, is_ignored_signal}

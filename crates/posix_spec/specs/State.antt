@@ -1,5 +1,5 @@
 -- The state of the POSIX machine.
-use Rattle.std.specs.Prelude.{ℕ, Bool, true, false, List, [], ◌∷◌, Option, Some, None, replicate}
+use Rattle.std.specs.Prelude.{ℕ, Bool, true, false, List, [], Option, None, replicate}
 use Rattle.std.specs.Ordering.{nat_cmp}
 use Rattle.std.specs.FinMap as map
 use Rattle.std.specs.FinSet as set
@@ -30,10 +30,10 @@ pub data CallInProgress : Type 0 where
   WaitCall : (looked_at : Numbers) → CallInProgress
   ForGroup : (call : GroupCall) → CallInProgress
 
--- A process. `report` is 0, 1 for a stop or 2 for a continue that its parent wasn't told. `pending`, `mask`, `saved` and
--- `lost` are signal sets. `saved` is the mask from before, in a `suspend`. `actions` has the actions of signals 1 to 31.
--- `blocked` says that the call waits, `due` that signals go first, `lost` which signals generation took away since
--- the last own event, `owed` how many CHLD are owed.
+-- A process. `report` is 0, 1 for a stop or 2 for a continue that its parent wasn't told. `pending`, `mask`, `saved`
+-- and `lost` are signal sets. `saved` is the mask from before, in a `suspend`. `actions` has the actions of signals 1
+-- to 31. `blocked` says that the call waits, `due` that signals go first, `lost` which signals generation took away
+-- since the last own event, `owed` how many CHLD are owed.
 pub record Record : Type 0 where
   pub parent : ℕ
   pub group : ℕ

@@ -1,5 +1,5 @@
 -- The steps of the POSIX machine: one case an event. The state after it, or none where it isn't a step in this state.
-use Rattle.std.specs.Prelude.{ℕ, ℤ, nat_eq, if◌then◌else◌, Option, Some, None}
+use Rattle.std.specs.Prelude.{ℕ, ℤ, nat_eq, if◌then◌else◌, Option}
 use Rattle.w32_base.specs.declared.event.Answer.{Answer}
 use Rattle.w32_base.specs.declared.event.Event.{Event}
 use Rattle.w32_base.specs.declared.event.Event.TheVariants as event
@@ -58,7 +58,8 @@ posix_step script s (event.Mask p m) = with_number m (λ n. for_call script s p 
 posix_step script s (event.SetAction p signal a) = with_number signal (λ n. for_call script s p (action_step s p a n))
 posix_step script s (event.Suspend p m) = with_number m (λ n. for_call script s p (suspend_step s p n))
 posix_step script s (event.Return p) = for_call script s p (return_step s p)
-posix_step script s (event.Deliver p signal how) = with_number signal (λ n. for_process s p (deliver_step script s p how n))
+posix_step script s (event.Deliver p signal how) =
+    with_number signal (λ n. for_process s p (deliver_step script s p how n))
 posix_step script s (event.Discard p signal) = with_number signal (λ n. for_process s p (discard_step s p n))
 posix_step script s (event.Stop p signal) = with_number signal (λ n. for_process s p (stop_step s p n))
 posix_step script s (event.Die p v cause) = with_number v (λ n. for_process s p (die_step script s p cause n))

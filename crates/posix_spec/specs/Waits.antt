@@ -1,5 +1,5 @@
 -- What a wait asks for, and what it reports of a child (POSIX.1-2017, XSH waitpid).
-use Rattle.std.specs.Prelude.{ℕ, ◌+◌, ℤ, pos, negsuc, Bool, true, false, ◌&&◌, ◌||◌, not, nat_eq, nat_lt, if◌then◌else◌, List, length, Option, Some, None, is_some, bit_and}
+use Rattle.std.specs.Prelude.{ℕ, ◌+◌, ℤ, pos, negsuc, Bool, true, ◌&&◌, ◌||◌, not, nat_eq, nat_lt, if◌then◌else◌, List, length, Option, Some, None, is_some, bit_and}
 use Rattle.std.specs.List.{list_all}
 use Rattle.std.specs.FinSet as set
 use Rattle.w32_base.specs.declared.instr.Instr.{Instr}
