@@ -8,3 +8,6 @@ pub mod Views
 pub mod EventsText
 pub mod EventCases
 pub mod LogCases
+pub mod EventsRead
+pub mod EventsReadLaws
+pub mod EventsReadBack

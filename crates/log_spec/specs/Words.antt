@@ -2,6 +2,7 @@
 use Rattle.std.specs.Prelude.{ℕ, ℤ, pos, negsuc, Bool, true, ◌&&◌, ◌||◌, nat_eq, nat_le, nat_lt, List, length}
 use Rattle.std.specs.List.{list_all}
 use Rattle.std.specs.Fmt.{decimal, signed_decimal}
+use Rattle.w32_base.specs.Name.{is_name}
 use Rattle.w32_base.specs.Names.{is_among}
 use Rattle.w32_base.specs.Setup.{module_names, program_names}
 use Rattle.script_spec.specs.declared.script.Script.{Script}
@@ -51,7 +52,7 @@ is_word_within script (Plain text) = true
 is_word_within script (Actor number) = is_actor number
 is_word_within script (Host number) = nat_eq number 0
 is_word_within script (Numeral number) = is_numeral number
-is_word_within script (ProgramName name) = is_among name (program_names script.setup.programs)
-is_word_within script (ModuleName name) = is_among name (module_names script.setup.modules)
+is_word_within script (ProgramName name) = is_name name && is_among name (program_names script.setup.programs)
+is_word_within script (ModuleName name) = is_name name && is_among name (module_names script.setup.modules)
 is_word_within script (KeyByte byte) = is_byte byte
 is_word_within script (Bytes bytes) = nat_le (length bytes) 64 && list_all is_byte bytes
