@@ -21,3 +21,12 @@ pub mod Opening
 pub mod Schedule
 pub mod Driven
 pub mod WellFormed
+pub mod LookupLaws
+pub mod ObjectLaws
+pub mod HandleLaws
+pub mod HeldLaws
+pub mod FormedLaws
+pub mod SweptLaws
+pub mod Tame
+pub mod TameLaws
+pub mod TameSteps

@@ -64,14 +64,18 @@ pub record IsLayerProcess (script : Script) (p : Process) (program_no : ℕ) : T
   pub sizes : HasSizes p.own 64 program.heap program.stack 288 512
   pub placed : AreModules script.setup.modules p.placed
 
--- A handle's lowest bit is 0 but on a pipe or the terminal.
+-- whether a handle's lowest bit tells an end of the object, or a face
+abbrev pub has_ends : Object → Bool
+has_ends (Section words) = false
+has_ends (Event e) = false
+has_ends (Mutex owner) = false
+has_ends (Pipe bytes) = true
+has_ends (ProcessObject v) = false
+has_ends (TerminalObject terminal) = true
+
+-- it is 0 on every other object
 abbrev pub FitsEnd : ℕ → Object → Type 0
-FitsEnd names (Section words) = object_number names ≡ names
-FitsEnd names (Event e) = object_number names ≡ names
-FitsEnd names (Mutex owner) = object_number names ≡ names
-FitsEnd names (Pipe bytes) = Unit {0}
-FitsEnd names (ProcessObject v) = object_number names ≡ names
-FitsEnd names (TerminalObject terminal) = Unit {0}
+FitsEnd names x = has_ends x ≡ false → object_number names ≡ names
 
 -- what a handle names is a listed object, by an end or a face that it has
 abbrev pub IsListed : List NumberedObject → ℕ → Type 0
@@ -110,12 +114,14 @@ IsObject processes (Pipe bytes) = length bytes ≤ 64
 IsObject processes (ProcessObject v) = (p : Process) × (process_of processes v ≡ Some p)
 IsObject processes (TerminalObject terminal) = Unit {0}
 
--- objects of which there is one at most: the section, the terminal, and for each process its own
-abbrev pub IsSameOnly : Object → Object → Type 0
-IsSameOnly (Section words) (Section others) = Unit {0}
-IsSameOnly (TerminalObject a) (TerminalObject b) = Unit {0}
-IsSameOnly (ProcessObject v) (ProcessObject w) = v ≡ w
-IsSameOnly _ _ = ⊥
+-- Objects of which there is one at most have a number: the section, the terminal, and the object of each process.
+abbrev pub only_number : Object → Option ℕ
+only_number (Section words) = Some 0
+only_number (Event e) = None
+only_number (Mutex owner) = None
+only_number (Pipe bytes) = None
+only_number (ProcessObject v) = Some (v + 2)
+only_number (TerminalObject terminal) = Some 1
 
 -- All of a well-formed state, but that nothing is listed which nobody holds.
 pub record IsFormed (script : Script) (s : Win32State) : Type 0 where
@@ -126,7 +132,8 @@ pub record IsFormed (script : Script) (s : Win32State) : Type 0 where
   pub one_a_slot : (v w : ℕ) (p q : Process) → process_of s.processes v ≡ Some p → process_of s.processes w ≡ Some q
       → is_alive p.life ≡ true → is_alive q.life ≡ true → p.slot ≡ q.slot → v ≡ w
   pub object : (o : ℕ) (x : Object) → object_of s.objects o ≡ Some x → IsObject s.processes x
-  pub only : (a b : ℕ) (x y : Object) → object_of s.objects a ≡ Some x → object_of s.objects b ≡ Some y → IsSameOnly x y → a ≡ b
+  pub only : (a b : ℕ) (x y : Object) (k : ℕ) → object_of s.objects a ≡ Some x → object_of s.objects b ≡ Some y
+      → only_number x ≡ Some k → only_number y ≡ Some k → a ≡ b
 
 -- A well-formed state: some handle names each object, and some object is that of each process that has ended.
 pub record IsWellFormed (script : Script) (s : Win32State) : Type 0 where
