@@ -24,3 +24,5 @@ pub mod Step
 pub mod Opening
 pub mod Run
 pub mod Waiting
+pub mod WellFormed
+pub mod RecordLaws

@@ -1,5 +1,5 @@
 -- Which signals may act on a process, and what they do (POSIX.1-2017, XSH 2.4).
-use Rattle.std.specs.Prelude.{ℕ, ◌-◌, Bool, true, false, ◌&&◌, Option, is_some, slice_get, slice_set, bit_and, bit_or}
+use Rattle.std.specs.Prelude.{ℕ, ◌-◌, Bool, true, false, ◌&&◌, List, Option, is_some, slice_get, slice_set, bit_and, bit_or}
 use Rattle.std.specs.Option.{unwrap_or}
 use Rattle.std.specs.List.{list_any}
 use Rattle.w32_base.specs.declared.instr.Action.{Action}
@@ -40,8 +40,11 @@ abbrev pub has_deliverable : Record → Bool
 has_deliverable r = is_some (deliverable r)
 
 -- the action of a signal from 1 to 31
+abbrev pub action_in : List Action → ℕ → Action
+action_in actions s = unwrap_or (slice_get actions (s - 1)) action.Default
+
 abbrev pub action_of : Record → ℕ → Action
-action_of r s = unwrap_or (slice_get r.actions (s - 1)) action.Default
+action_of r s = action_in r.actions s
 
 abbrev pub with_action : Record → ℕ → Action → Record
 with_action r s a = record r { actions = slice_set r.actions (s - 1) a }
