@@ -1,5 +1,5 @@
--- When a state of the modelled Win32 shows the processes of the POSIX machine: by the words of the rows, by the memory of
--- the live processes that the rows name, and by the terminal.
+-- When a state of the modelled Win32 shows the processes of the POSIX machine: by the words of the rows, by the memory
+-- of the live processes that the rows name, and by the terminal.
 use Rattle.std.specs.Prelude.{◌≡◌, ℕ, ◌+◌, ◌≤◌, ◌<◌, Bool, true, false, ◌&&◌, not, nat_eq, List, [], ◌∷◌, length, map, slice_index, Option, Some, None, IsSome, MatchOption}
 use Rattle.w32_base.specs.declared.own.Own.{Own}
 use Rattle.script_spec.specs.declared.script.Script.{Script}
@@ -47,7 +47,8 @@ is_child_of parent (Some r) = nat_eq r.parent parent
 
 -- Memory holds the image of the record with this number. Its cygheap keeps the layout: it tells the masks and the
 -- actions, at which bases the process's modules are placed, and, each once, who its children are.
-pub record HoldsRecord (script : Script) (own : Own) (placed : List PlacedModule) (p : PosixState) (number : ℕ) (r : Record) : Type 0 where
+pub record HoldsRecord (script : Script) (own : Own) (placed : List PlacedModule) (p : PosixState)
+    (number : ℕ) (r : Record) : Type 0 where
   pub image : r.image ≡ image_of own
   pub heap : HeapFields
   pub legal : IsHeap heap
@@ -61,7 +62,8 @@ pub record HoldsRecord (script : Script) (own : Own) (placed : List PlacedModule
 
 -- The words of a row are those of the record. Where the process that the main word names is alive and the record isn't
 -- a zombie, that process's memory holds the rest. `memory` tells the memory of a process.
-pub record ShowsRecord (script : Script) (memory : Process → Own) (s : Win32State) (p : PosixState) (row : ℕ) (main : MainWord) (r : Record) : Type 0 where
+pub record ShowsRecord (script : Script) (memory : Process → Own) (s : Win32State) (p : PosixState)
+    (row : ℕ) (main : MainWord) (r : Record) : Type 0 where
   pub life : life_of main ≡ Some r.life
   pub report : r.report ≡ main.report
   pub execd : r.execd ≡ main.execd
@@ -75,12 +77,14 @@ pub record ShowsRecord (script : Script) (memory : Process → Own) (s : Win32St
   pub held : is_live_kind main.kind ≡ true → (q : Process) → process_of s.processes main.image ≡ Some q
       → is_alive q.life ≡ true → HoldsRecord script (memory q) q.placed p (row + 1) r
 
--- The main word of a row decodes. The row is a running, a stopped or a zombie one exactly where there is the process with
--- its number, and shows that process.
-pub record ShowsRow (script : Script) (memory : Process → Own) (s : Win32State) (p : PosixState) (row : ℕ) : Type 0 where
+-- The main word of a row decodes. The row is a running, a stopped or a zombie one exactly where there is the process
+-- with its number, and shows that process.
+pub record ShowsRow (script : Script) (memory : Process → Own) (s : Win32State) (p : PosixState)
+    (row : ℕ) : Type 0 where
   pub main : MainWord
   pub decodes : main_of (main_at s row) ≡ Some main
-  pub shown : MatchOption (record_of p (row + 1)) (is_process_kind main.kind ≡ false) (λ r. ShowsRecord script memory s p row main r)
+  pub shown : MatchOption (record_of p (row + 1)) (is_process_kind main.kind ≡ false)
+      (λ r. ShowsRecord script memory s p row main r)
 
 -- Row r, from 1 on, shows process number r + 1, and there are no other processes. The terminal is that of the machine.
 pub record DecodesBy (script : Script) (memory : Process → Own) (s : Win32State) (p : PosixState) : Type 0 where

@@ -3,8 +3,8 @@ use Rattle.std.specs.Prelude.{◌≡◌, ℕ, ◌↔◌, Bool, true, false, ◌&
 use Rattle.std.proofs.Common.{refl, subst}
 use Rattle.std.proofs.lemmas.Bool.{and_parts, and_from, eqb-true, eq-eqb}
 
--- A legal record's word tells that record; a word that tells a record is that record's, which is legal; and a word tells
--- none exactly where it is no legal record's.
+-- A legal record's word tells that record; a word that tells a record is that record's, which is legal; and a word
+-- tells none exactly where it is no legal record's.
 pub record AreInverse {A : Type 0} (IsLegal : A → Type 0) (encode : A → ℕ) (decode : ℕ → Option A) : Type 0 where
   pub there : (a : A) → IsLegal a → decode (encode a) ≡ Some a
   pub back : (w : ℕ) (a : A) → decode w ≡ Some a → IsLegal a × (encode a ≡ w)
@@ -12,7 +12,8 @@ pub record AreInverse {A : Type 0} (IsLegal : A → Type 0) (encode : A → ℕ)
 
 -- the third follows from the first two
 pub inverse_from : {A : Type 0} (IsLegal : A → Type 0) (encode : A → ℕ) (decode : ℕ → Option A)
-    → ((a : A) → IsLegal a → decode (encode a) ≡ Some a) → ((w : ℕ) (a : A) → decode w ≡ Some a → IsLegal a × (encode a ≡ w))
+    → ((a : A) → IsLegal a → decode (encode a) ≡ Some a)
+    → ((w : ℕ) (a : A) → decode w ≡ Some a → IsLegal a × (encode a ≡ w))
     → AreInverse IsLegal encode decode
 inverse_from {A} IsLegal encode decode there back = record {
   there = there;
@@ -22,7 +23,9 @@ inverse_from {A} IsLegal encode decode there back = record {
   where
     none_is : (w : ℕ) → decode w ≡ None → (a : A) → IsLegal a → encode a ≡ w → ⊥
     none_is w n a legal e = let s : decode w ≡ Some a = subst (λ (v : ℕ). decode v ≡ Some a) e (there a legal) in cc
-    is_none : (w : ℕ) (o : Option A) → ((a : A) → o ≡ Some a → IsLegal a × (encode a ≡ w)) → ((a : A) → IsLegal a → encode a ≡ w → ⊥) → o ≡ None
+
+    is_none : (w : ℕ) (o : Option A) → ((a : A) → o ≡ Some a → IsLegal a × (encode a ≡ w))
+        → ((a : A) → IsLegal a → encode a ≡ w → ⊥) → o ≡ None
     is_none w None told nothing = refl
     is_none w (Some a) told nothing = absurd (nothing a (told a refl).0 (told a refl).1)
 
@@ -34,7 +37,8 @@ when_some false x y h = cc
 -- a record that is tested and whose word is compared
 pub told_at : {A : Type 0} (is_legal : A → Bool) (encode : A → ℕ) (w : ℕ) (a : A) → is_legal a ≡ true → encode a ≡ w
     → (if is_legal a && nat_eq (encode a) w then Some a else None) ≡ Some a
-told_at is_legal encode w a legal e = rw (and_from (is_legal a) (nat_eq (encode a) w) legal (eq-eqb (encode a) w e)) refl
+told_at is_legal encode w a legal e =
+    rw (and_from (is_legal a) (nat_eq (encode a) w) legal (eq-eqb (encode a) w e)) refl
 
 pub told_from : {A : Type 0} (is_legal : A → Bool) (encode : A → ℕ) (w : ℕ) (x a : A)
     → (if is_legal x && nat_eq (encode x) w then Some x else None) ≡ Some a → (is_legal a ≡ true) × (encode a ≡ w)

@@ -55,7 +55,7 @@ numbered_by script creation m (x ∷ xs) before after h v e =
     } in
     let same : m + 1 + length xs ≡ m + length (x ∷ xs) = omega arith in
     subst (λ (n : ℕ). Numbered n after) same
-        (numbered_by script creation (m + 1) xs (and_placed before m e.0) after one_more valid.1 e.2)
+    (numbered_by script creation (m + 1) xs (and_placed before m e.0) after one_more valid.1 e.2)
 
 pub base_in-numbered : (m k : ℕ) (xs : List PlacedModule) → AreNumbered m xs → k < length xs
     → base_in xs (m + k) ≡ Some (get_or (map (λ (x : PlacedModule). x.base) xs) k 0)
@@ -73,7 +73,7 @@ pub bases_below : (m : ℕ) (xs : List PlacedModule) → AreNumbered m xs
 bases_below m [] h = refl
 bases_below m (x ∷ xs) h =
     and_from (is_base x.base) (list_all is_base (map (λ (y : PlacedModule). y.base) xs)) (le-leb x.base 1023 h.1)
-        (bases_below (m + 1) xs h.2)
+    (bases_below (m + 1) xs h.2)
 
 -- what the first cygheap keeps
 abbrev pub opening_fields : List PlacedModule → HeapFields
@@ -116,8 +116,8 @@ opening_layout m placed h few =
     let bases = map (λ (x : PlacedModule). x.base) placed in
     let left : ℕ = 8 - length placed in
     let parts : flat_map two_bytes (bases ++ replicate left 0) ≡ base_bytes placed ++ replicate (2 * left) 0
-        = flat_map-append two_bytes bases (replicate left 0)
-          ∙ rw (bases_in_bytes 0 placed h.numbers, zeros_in_bytes left) refl in
+    = flat_map-append two_bytes bases (replicate left 0)
+    ∙ rw (bases_in_bytes 0 placed h.numbers, zeros_in_bytes left) refl in
     let count = length-base_bytes placed in
     let sum : 2 * left + 4 + 128 ≡ 148 - length (base_bytes placed) = omega (arith, h.count) in
     ap (λ bytes. (1 ∷ replicate 139 0) ++ (bytes ++ replicate 4 0 ++ [] ++ replicate 128 0)) parts
@@ -128,7 +128,8 @@ zeros_are_bases : (n : ℕ) → list_all is_base (replicate n 0) ≡ true
 zeros_are_bases zero = refl
 zeros_are_bases (suc n) = zeros_are_bases n
 
-pub opening_heap_legal : (m : ℕ) (placed : List PlacedModule) → Numbered m placed → m ≤ 8 → IsHeap (opening_fields placed)
+pub opening_heap_legal : (m : ℕ) (placed : List PlacedModule) → Numbered m placed → m ≤ 8
+    → IsHeap (opening_fields placed)
 opening_heap_legal m placed h few = record {
   mask = refl;
   saved = refl;
@@ -137,8 +138,9 @@ opening_heap_legal m placed h few = record {
   actions = refl;
   base_count = simp (length-append, length-map, length-replicate) (omega (arith, h.count));
   bases = rw (list_all-append is_base (map (λ (x : PlacedModule). x.base) placed) (replicate (8 - length placed) 0))
-      (and_from (list_all is_base (map (λ (x : PlacedModule). x.base) placed)) (list_all is_base (replicate (8 - length placed) 0))
-          (bases_below 0 placed h.numbers) (zeros_are_bases (8 - length placed)));
+      (and_from (list_all is_base (map (λ (x : PlacedModule). x.base) placed))
+      (list_all is_base (replicate (8 - length placed) 0))
+      (bases_below 0 placed h.numbers) (zeros_are_bases (8 - length placed)));
   child_count = refl;
   children = refl;
 }

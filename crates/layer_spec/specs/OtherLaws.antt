@@ -7,15 +7,19 @@ use Rattle.layer_spec.specs.Rows.{GroupWord, ExitWord, bit_of, group_word_of, ex
 use Rattle.layer_spec.specs.Decoding.{group_fields, exit_fields, if_group, if_exit, group_of, exit_of}
 use Rattle.layer_spec.specs.RowLaws.{field_at, bit_below, bit_back}
 
-pub group_fields_back : (parent group session : ℕ) (terminal : Bool) (w : ℕ) → parent < 2 ^ 12 → group < 2 ^ 12 → session < 2 ^ 12
+pub group_fields_back : (parent group session : ℕ) (terminal : Bool) (w : ℕ) → parent < 2 ^ 12 → group < 2 ^ 12
+    → session < 2 ^ 12
     → w ≡ parent + group * 2 ^ 12 + session * 2 ^ 24 + bit_of terminal * 2 ^ 36
     → group_fields w ≡ record { parent = parent; group = group; session = session; terminal = terminal }
 group_fields_back parent group session terminal w p g s e =
     let bit = bit_below terminal in
-    let parent_is = field_at 0 12 0 parent (group + session * 2 ^ 12 + bit_of terminal * 2 ^ 24) w (omega arith) p (omega arith) in
+    let parent_is = field_at 0 12 0 parent (group + session * 2 ^ 12 + bit_of terminal * 2 ^ 24) w
+    (omega arith) p (omega arith) in
     let group_is = field_at 12 12 parent group (session + bit_of terminal * 2 ^ 12) w p g (omega arith) in
-    let session_is = field_at 24 12 (parent + group * 2 ^ 12) session (bit_of terminal) w (omega arith) s (omega arith) in
-    let terminal_is = field_at 36 1 (parent + group * 2 ^ 12 + session * 2 ^ 24) (bit_of terminal) 0 w (omega arith) bit (omega arith) in
+    let session_is = field_at 24 12 (parent + group * 2 ^ 12) session (bit_of terminal) w
+    (omega arith) s (omega arith) in
+    let terminal_is = field_at 36 1 (parent + group * 2 ^ 12 + session * 2 ^ 24) (bit_of terminal) 0 w
+    (omega arith) bit (omega arith) in
     rw (parent_is, group_is, session_is, terminal_is, bit_back terminal) refl
 
 pub group_ranges : (g : GroupWord) → IsGroup g → (g.parent < 2 ^ 12) × (g.group < 2 ^ 12) × (g.session < 2 ^ 12)
@@ -29,7 +33,9 @@ group_of_word g h =
     ∙ told_at is_group group_word_of w g h refl
 
 pub group_words : AreInverse IsGroup group_word_of group_of
-group_words = inverse_from IsGroup group_word_of group_of group_of_word (λ w g h. told_from is_group group_word_of w (group_fields w) g h)
+group_words =
+    inverse_from IsGroup group_word_of group_of group_of_word
+    (λ w g h. told_from is_group group_word_of w (group_fields w) g h)
 
 pub group_word_below : (g : GroupWord) → IsGroup g → group_word_of g < 2 ^ 37
 group_word_below g h = let ranges = group_ranges g h in omega (arith, bit_below g.terminal)
@@ -51,10 +57,13 @@ pub exit_of_word : (e : ExitWord) → IsExit e → exit_of (exit_word_of e) ≡ 
 exit_of_word e h =
     let w : ℕ = exit_word_of e in
     let ranges = exit_ranges e h in
-    ap (if_exit w) (exit_fields_back e.status e.image e.fault w ranges.0 ranges.1 refl) ∙ told_at is_exit exit_word_of w e h refl
+    ap (if_exit w) (exit_fields_back e.status e.image e.fault w ranges.0 ranges.1 refl)
+    ∙ told_at is_exit exit_word_of w e h refl
 
 pub exit_words : AreInverse IsExit exit_word_of exit_of
-exit_words = inverse_from IsExit exit_word_of exit_of exit_of_word (λ w e h. told_from is_exit exit_word_of w (exit_fields w) e h)
+exit_words =
+    inverse_from IsExit exit_word_of exit_of exit_of_word
+    (λ w e h. told_from is_exit exit_word_of w (exit_fields w) e h)
 
 pub exit_word_below : (e : ExitWord) → IsExit e → exit_word_of e < 2 ^ 29
 exit_word_below e h = let ranges = exit_ranges e h in omega (arith, bit_below e.fault)

@@ -36,6 +36,10 @@ group_word = refl
 exit_word : exit_word_of (record { status = 7; image = 2; fault = false }) ≡ 1031
 exit_word = refl
 
+abbrev pub largest : MainWord
+largest =
+    record { kind = Stopped; stop = 22; report = 1; execd = true; image = 524287; pending = 2 ^ 31 - 1; status = 0 }
+
 -- what words tell
 free_row : main_of 0 ≡ Some (blank Free)
 free_row = refl
@@ -49,11 +53,11 @@ gone_row = refl
 stopped_row : main_of 1381479189990866944 ≡ Some is_stopped
 stopped_row = refl
 
-largest_fields : main_of (main_word_of (record { kind = Stopped; stop = 22; report = 1; execd = true; image = 524287; pending = 2147483647; status = 0 }))
-    ≡ Some (record { kind = Stopped; stop = 22; report = 1; execd = true; image = 524287; pending = 2147483647; status = 0 })
+largest_fields : main_of (main_word_of largest) ≡ Some largest
 largest_fields = refl
 
-largest_status : main_of (main_word_of (record exited { status = 511; execd = true })) ≡ Some (record exited { status = 511; execd = true })
+largest_status : main_of (main_word_of (record exited { status = 511; execd = true }))
+    ≡ Some (record exited { status = 511; execd = true })
 largest_status = refl
 
 empty_exit : exit_of 0 ≡ Some (record { status = 0; image = 0; fault = false })
@@ -88,7 +92,8 @@ bit_61 = refl
 bit_63 : main_of (2251804108652544 + 2 ^ 63) ≡ None
 bit_63 = refl
 
--- a running row with a stop to report or with a stop signal, a stopped one with a continue to report or by another signal
+-- a running row with a stop to report or with a stop signal, a stopped one with a continue to report or by another
+-- signal
 running_report : main_of (2251804108652544 + 2 ^ 53) ≡ None
 running_report = refl
 

@@ -22,22 +22,36 @@ pub record MainParts (w low image kind report execd stop : ℕ) : Type 0 where
   pub execd_is : field w 55 1 ≡ execd
   pub stop_is : field w 56 5 ≡ stop
 
-pub main_parts : (w low image kind report execd stop : ℕ) → low < 2 ^ 31 → image < 2 ^ 19 → kind < 2 ^ 3 → report < 2 ^ 2
+pub main_parts : (w low image kind report execd stop : ℕ) → low < 2 ^ 31 → image < 2 ^ 19 → kind < 2 ^ 3
+    → report < 2 ^ 2
     → execd < 2 ^ 1 → stop < 2 ^ 5
     → w ≡ low + image * 2 ^ 31 + kind * 2 ^ 50 + report * 2 ^ 53 + execd * 2 ^ 55 + stop * 2 ^ 56
     → MainParts w low image kind report execd stop
 main_parts w low image kind report execd stop l i k r x s e = record {
-  low_is = field_at 0 31 0 low (image + kind * 2 ^ 19 + report * 2 ^ 22 + execd * 2 ^ 24 + stop * 2 ^ 25) w (omega arith) l (omega arith);
+  low_is = field_at 0 31 0 low (image + kind * 2 ^ 19 + report * 2 ^ 22 + execd * 2 ^ 24 + stop * 2 ^ 25) w
+      (omega arith) l (omega arith);
   image_is = field_at 31 19 low image (kind + report * 2 ^ 3 + execd * 2 ^ 5 + stop * 2 ^ 6) w l i (omega arith);
-  kind_is = field_at 50 3 (low + image * 2 ^ 31) kind (report + execd * 2 ^ 2 + stop * 2 ^ 3) w (omega arith) k (omega arith);
-  report_is = field_at 53 2 (low + image * 2 ^ 31 + kind * 2 ^ 50) report (execd + stop * 2) w (omega arith) r (omega arith);
-  execd_is = field_at 55 1 (low + image * 2 ^ 31 + kind * 2 ^ 50 + report * 2 ^ 53) execd stop w (omega arith) x (omega arith);
-  stop_is = field_at 56 5 (low + image * 2 ^ 31 + kind * 2 ^ 50 + report * 2 ^ 53 + execd * 2 ^ 55) stop 0 w (omega arith) s (omega arith);
+  kind_is = field_at 50 3 (low + image * 2 ^ 31) kind (report + execd * 2 ^ 2 + stop * 2 ^ 3) w
+      (omega arith) k (omega arith);
+  report_is = field_at 53 2 (low + image * 2 ^ 31 + kind * 2 ^ 50) report (execd + stop * 2) w
+      (omega arith) r (omega arith);
+  execd_is = field_at 55 1 (low + image * 2 ^ 31 + kind * 2 ^ 50 + report * 2 ^ 53) execd stop w
+      (omega arith) x (omega arith);
+  stop_is = field_at 56 5 (low + image * 2 ^ 31 + kind * 2 ^ 50 + report * 2 ^ 53 + execd * 2 ^ 55) stop 0 w
+      (omega arith) s (omega arith);
 }
 
 abbrev pub main_record : (kind : RowKind) (stop report : ℕ) (execd : Bool) (image pending status : ℕ) → MainWord
 main_record kind stop report execd image pending status =
-    record { kind = kind; stop = stop; report = report; execd = execd; image = image; pending = pending; status = status }
+    record {
+      kind = kind;
+      stop = stop;
+      report = report;
+      execd = execd;
+      image = image;
+      pending = pending;
+      status = status;
+    }
 
 pub bit_below : (b : Bool) → bit_of b < 2 ^ 1
 bit_below true = omega arith
@@ -84,7 +98,7 @@ kind_back Gone = refl
 pub low_back : (kind : RowKind) (stop report : ℕ) (execd : Bool) (image pending status : ℕ)
     → IsMain (main_record kind stop report execd image pending status)
     → (pending_in kind (low_bits kind (main_record kind stop report execd image pending status)) ≡ pending)
-      × (status_in kind (low_bits kind (main_record kind stop report execd image pending status)) ≡ status)
+    × (status_in kind (low_bits kind (main_record kind stop report execd image pending status)) ≡ status)
 low_back Free stop report execd image pending status h = grind (arith, nat_tests)
 low_back Held stop report execd image pending status h = grind (arith, nat_tests)
 low_back Running stop report execd image pending status h = grind (arith, nat_tests)
@@ -94,7 +108,8 @@ low_back Gone stop report execd image pending status h = grind (arith, nat_tests
 
 pub fields_back : (kind : RowKind) (stop report : ℕ) (execd : Bool) (image pending status w : ℕ)
     → IsMain (main_record kind stop report execd image pending status)
-    → MainParts w (low_bits kind (main_record kind stop report execd image pending status)) image (kind_number kind) report (bit_of execd) stop
+    → MainParts w (low_bits kind (main_record kind stop report execd image pending status)) image
+    (kind_number kind) report (bit_of execd) stop
     → main_fields kind w ≡ main_record kind stop report execd image pending status
 fields_back kind stop report execd image pending status w h parts =
     let low = low_back kind stop report execd image pending status h in
@@ -105,7 +120,8 @@ main_of_word m h =
     let w : ℕ = main_word_of m in
     let ranges = main_ranges m.kind m.stop m.report m.execd m.image m.pending m.status h in
     let parts = main_parts w (low_bits m.kind m) m.image (kind_number m.kind) m.report (bit_of m.execd) m.stop
-        ranges.low_below ranges.image_below (kind_below m.kind) ranges.report_below (bit_below m.execd) ranges.stop_below refl in
+    ranges.low_below ranges.image_below (kind_below m.kind) ranges.report_below (bit_below m.execd)
+    ranges.stop_below refl in
     let fields = fields_back m.kind m.stop m.report m.execd m.image m.pending m.status w h parts in
     ap (λ n. main_by_kind w (kind_from n)) parts.kind_is
     ∙ ap (main_by_kind w) (kind_back m.kind)

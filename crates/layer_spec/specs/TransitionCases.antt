@@ -13,14 +13,17 @@ post_last : trans runs (Post 31) ≡ Some (record runs { pending = 2 ^ 30 })
 post_last = refl
 
 -- a stop signal takes a pending CONT away, and CONT the stop signals
-stop_takes_continue : trans (record runs { pending = 2 ^ 17 + 1 }) (Post 20) ≡ Some (record runs { pending = 2 ^ 19 + 1 })
+stop_takes_continue : trans (record runs { pending = 2 ^ 17 + 1 }) (Post 20)
+    ≡ Some (record runs { pending = 2 ^ 19 + 1 })
 stop_takes_continue = refl
 
-continue_takes_stops : trans (record runs { pending = 15 * 2 ^ 18 + 2 ^ 22 }) (Post 18) ≡ Some (record runs { pending = 2 ^ 17 + 2 ^ 22 })
+continue_takes_stops : trans (record runs { pending = 15 * 2 ^ 18 + 2 ^ 22 }) (Post 18)
+    ≡ Some (record runs { pending = 2 ^ 17 + 2 ^ 22 })
 continue_takes_stops = refl
 
 -- CONT wakes a stopped process, with a continue to report; every other signal leaves it stopped
-continue_wakes : trans (record is_stopped { pending = 2 ^ 20 }) (Post 18) ≡ Some (record runs { pending = 2 ^ 17; report = 2 })
+continue_wakes : trans (record is_stopped { pending = 2 ^ 20 }) (Post 18)
+    ≡ Some (record runs { pending = 2 ^ 17; report = 2 })
 continue_wakes = refl
 
 kill_leaves_stopped : trans is_stopped (Post 9) ≡ Some (record is_stopped { pending = 2 ^ 8 })
@@ -42,7 +45,8 @@ clear_absent = refl
 clear_in_stopped : trans (record is_stopped { pending = 2 ^ 14 }) (Clear 15) ≡ None
 clear_in_stopped = refl
 
-stop_pending : trans (record runs { pending = 2 ^ 21 + 1; report = 2 }) (Stop 22) ≡ Some (record is_stopped { stop = 22; pending = 1 })
+stop_pending : trans (record runs { pending = 2 ^ 21 + 1; report = 2 }) (Stop 22)
+    ≡ Some (record is_stopped { stop = 22; pending = 1 })
 stop_pending = refl
 
 stop_absent : trans runs (Stop 19) ≡ None
@@ -52,13 +56,15 @@ stop_by_term : trans (record runs { pending = 2 ^ 14 }) (Stop 15) ≡ None
 stop_by_term = refl
 
 -- what stays of a process at its takeover and at its death
-takeover_keeps : trans (record runs { pending = 5; report = 2 }) (TakeOver 9) ≡ Some (record runs { pending = 5; report = 2; image = 9; execd = true })
+takeover_keeps : trans (record runs { pending = 5; report = 2 }) (TakeOver 9)
+    ≡ Some (record runs { pending = 5; report = 2; image = 9; execd = true })
 takeover_keeps = refl
 
 takeover_of_stopped : trans is_stopped (TakeOver 9) ≡ None
 takeover_of_stopped = refl
 
-seal_running : trans (record runs { pending = 5; report = 2; execd = true }) (Seal 7) ≡ Some (record exited { execd = true })
+seal_running : trans (record runs { pending = 5; report = 2; execd = true }) (Seal 7)
+    ≡ Some (record exited { execd = true })
 seal_running = refl
 
 seal_stopped : trans is_stopped (Seal 265) ≡ Some (record exited { status = 265 })

@@ -15,7 +15,8 @@ pub outside_below : (set other : ℕ) → set < 2 ^ 31 → outside set other < 2
 outside_below set other h = omega (arith, and_le_l set (2 ^ 31 - 1 - bit_and other (2 ^ 31 - 1)))
 
 pub generate_below : (pending s : ℕ) → is_signal s ≡ true → pending < 2 ^ 31 → generate pending s < 2 ^ 31
-generate_below pending s h below = or_lt 31 (outside pending (taken_by s)) (only s) (outside_below pending (taken_by s) below) (only_below s h)
+generate_below pending s h below =
+    or_lt 31 (outside pending (taken_by s)) (only s) (outside_below pending (taken_by s) below) (only_below s h)
 
 -- what comes of a change, if anything, is legal
 abbrev pub IsLegal : Option MainWord → Type 0
@@ -23,8 +24,10 @@ IsLegal None = Unit {0}
 IsLegal (Some m) = IsMain m
 
 -- a line of the table, by its columns
-pub legal_line : (kind : RowKind) (a b c d e f : Option MainWord) → (kind ≡ Free → IsLegal a) → (kind ≡ Held → IsLegal b)
-    → (kind ≡ Running → IsLegal c) → (kind ≡ Stopped → IsLegal d) → (kind ≡ Zombie → IsLegal e) → (kind ≡ Gone → IsLegal f)
+pub legal_line : (kind : RowKind) (a b c d e f : Option MainWord) → (kind ≡ Free → IsLegal a)
+    → (kind ≡ Held → IsLegal b)
+    → (kind ≡ Running → IsLegal c) → (kind ≡ Stopped → IsLegal d) → (kind ≡ Zombie → IsLegal e)
+    → (kind ≡ Gone → IsLegal f)
     → IsLegal (by_kind kind a b c d e f)
 legal_line Free a b c d e f pa pb pc pd pe pf = pa refl
 legal_line Held a b c d e f pa pb pc pd pe pf = pb refl
@@ -72,12 +75,12 @@ pub woken_legal : (m : MainWord) (s : ℕ) → IsMain m → is_signal s ≡ true
 woken_legal m s h op k = let f = fits Stopped m h k in
     let below = generate_below m.pending s op (stopped_below m f) in
     one_of_legal (nat_eq s continue_signal) (record (posted m s) { kind = Running; report = 2; stop = 0 }) (posted m s)
-        (continued m (generate m.pending s) f below) (rw k (stopped_with m (generate m.pending s) f below))
+    (continued m (generate m.pending s) f below) (rw k (stopped_with m (generate m.pending s) f below))
 
 pub cleared_legal : (m : MainWord) (s : ℕ) → IsMain m → m.kind ≡ Running → IsLegal (cleared m s)
 cleared_legal m s h k = let f = fits Running m h k in
     legal_where (contains m.pending s) (without m s)
-        (λ _. rw k (running_with m (outside m.pending (only s)) f (outside_below m.pending (only s) (running_below m f))))
+    (λ _. rw k (running_with m (outside m.pending (only s)) f (outside_below m.pending (only s) (running_below m f))))
 
 -- a running row that a signal stops
 pub stopping : (m : MainWord) (s pending : ℕ) → fits_kind Running m ≡ true → is_stop_signal s ≡ true → pending < 2 ^ 31
@@ -86,9 +89,10 @@ stopping m s pending h stops below = grind (arith, nat_tests)
 
 pub stopped_legal : (m : MainWord) (s : ℕ) → IsMain m → m.kind ≡ Running → IsLegal (stopped m s)
 stopped_legal m s h k = let f = fits Running m h k in
-    legal_where (is_stop_signal s && contains m.pending s) (record (without m s) { kind = Stopped; stop = s; report = 1 })
-        (λ b. stopping m s (outside m.pending (only s)) f (and_parts (is_stop_signal s) (contains m.pending s) b).0
-            (outside_below m.pending (only s) (running_below m f)))
+    legal_where (is_stop_signal s && contains m.pending s)
+    (record (without m s) { kind = Stopped; stop = s; report = 1 })
+    (λ b. stopping m s (outside m.pending (only s)) f (and_parts (is_stop_signal s) (contains m.pending s) b).0
+    (outside_below m.pending (only s) (running_below m f)))
 
 pub published_legal : (image : ℕ) → nat_lt image (2 ^ 19) ≡ true → IsMain (published image)
 published_legal image h = grind (arith, nat_tests)
@@ -97,7 +101,8 @@ pub taken_over_fits : (m : MainWord) (image : ℕ) → fits_kind Running m ≡ t
     → fits_kind Running (record m { image = image; execd = true }) ≡ true
 taken_over_fits m image h op = grind (arith, nat_tests)
 
-pub sealed_legal : (m : MainWord) (status : ℕ) → m.image < 2 ^ 19 → nat_lt status (2 ^ 9) ≡ true → IsMain (sealed m status)
+pub sealed_legal : (m : MainWord) (status : ℕ) → m.image < 2 ^ 19 → nat_lt status (2 ^ 9) ≡ true
+    → IsMain (sealed m status)
 sealed_legal m status h op = grind (arith, nat_tests)
 
 pub running_image : (m : MainWord) → fits_kind Running m ≡ true → m.image < 2 ^ 19
@@ -113,29 +118,38 @@ pub stopped_reported : (m : MainWord) → fits_kind Stopped m ≡ true → fits_
 stopped_reported m h = grind (arith, nat_tests)
 
 pub legal_change : (m : MainWord) (op : Op) → IsMain m → is_op op ≡ true → IsLegal (trans m op)
-legal_change m Hold h o = legal_line m.kind (Some held) None None None None None (λ _. refl) (λ _. tt) (λ _. tt) (λ _. tt) (λ _. tt) (λ _. tt)
-legal_change m Drop h o = legal_line m.kind None (Some gone) None None None None (λ _. tt) (λ _. refl) (λ _. tt) (λ _. tt) (λ _. tt) (λ _. tt)
+legal_change m Hold h o =
+    legal_line m.kind (Some held) None None None None None (λ _. refl) (λ _. tt) (λ _. tt) (λ _. tt) (λ _. tt) (λ _. tt)
+legal_change m Drop h o =
+    legal_line m.kind None (Some gone) None None None None (λ _. tt) (λ _. refl) (λ _. tt) (λ _. tt) (λ _. tt) (λ _. tt)
 legal_change m (Publish image) h o = legal_line m.kind None (Some (published image)) None None None None
     (λ _. tt) (λ _. published_legal image o) (λ _. tt) (λ _. tt) (λ _. tt) (λ _. tt)
 legal_change m (Post s) h o = legal_line m.kind None None (Some (posted m s)) (Some (woken m s)) (Some m) None
     (λ _. tt) (λ _. tt) (posted_legal m s h o) (woken_legal m s h o) (λ _. h) (λ _. tt)
-legal_change m Probe h o = legal_line m.kind None None (Some m) (Some m) (Some m) None (λ _. tt) (λ _. tt) (λ _. h) (λ _. h) (λ _. h) (λ _. tt)
+legal_change m Probe h o =
+    legal_line m.kind None None (Some m) (Some m) (Some m) None (λ _. tt) (λ _. tt) (λ _. h) (λ _. h) (λ _. h) (λ _. tt)
 legal_change m (Clear s) h o = legal_line m.kind None None (cleared m s) None None None
     (λ _. tt) (λ _. tt) (cleared_legal m s h) (λ _. tt) (λ _. tt) (λ _. tt)
 legal_change m (Stop s) h o = legal_line m.kind None None (stopped m s) None None None
     (λ _. tt) (λ _. tt) (stopped_legal m s h) (λ _. tt) (λ _. tt) (λ _. tt)
 legal_change m (TakeOver image) h o = legal_line m.kind None None (Some (taken_over m image)) None None None
     (λ _. tt) (λ _. tt) (λ k. rw k (taken_over_fits m image (fits Running m h k) o)) (λ _. tt) (λ _. tt) (λ _. tt)
-legal_change m (Seal status) h o = legal_line m.kind None None (Some (sealed m status)) (Some (sealed m status)) None None
+legal_change m (Seal status) h o =
+    legal_line m.kind None None (Some (sealed m status)) (Some (sealed m status)) None None
     (λ _. tt) (λ _. tt) (λ k. sealed_legal m status (running_image m (fits Running m h k)) o)
     (λ k. sealed_legal m status (stopped_image m (fits Stopped m h k)) o) (λ _. tt) (λ _. tt)
 legal_change m Report h o = legal_line m.kind None None (reported m 2) (reported m 1) None None (λ _. tt) (λ _. tt)
-    (λ k. legal_where (nat_eq m.report 2) (record m { report = 0 }) (λ _. rw k (running_reported m (fits Running m h k))))
-    (λ k. legal_where (nat_eq m.report 1) (record m { report = 0 }) (λ _. rw k (stopped_reported m (fits Stopped m h k))))
+    (λ k. legal_where (nat_eq m.report 2) (record m { report = 0 })
+    (λ _. rw k (running_reported m (fits Running m h k))))
+    (λ k. legal_where (nat_eq m.report 1) (record m { report = 0 })
+    (λ _. rw k (stopped_reported m (fits Stopped m h k))))
     (λ _. tt) (λ _. tt)
-legal_change m Reap h o = legal_line m.kind None None None None (Some gone) None (λ _. tt) (λ _. tt) (λ _. tt) (λ _. tt) (λ _. refl) (λ _. tt)
-legal_change m Collect h o = legal_line m.kind None None None None (Some gone) None (λ _. tt) (λ _. tt) (λ _. tt) (λ _. tt) (λ _. refl) (λ _. tt)
+legal_change m Reap h o =
+    legal_line m.kind None None None None (Some gone) None (λ _. tt) (λ _. tt) (λ _. tt) (λ _. tt) (λ _. refl) (λ _. tt)
+legal_change m Collect h o =
+    legal_line m.kind None None None None (Some gone) None (λ _. tt) (λ _. tt) (λ _. tt) (λ _. tt) (λ _. refl) (λ _. tt)
 
 -- what a change within its ranges makes of a legal record is legal
-pub trans_keeps_legal : (m : MainWord) (op : Op) (new : MainWord) → IsMain m → is_op op ≡ true → trans m op ≡ Some new → IsMain new
+pub trans_keeps_legal : (m : MainWord) (op : Op) (new : MainWord) → IsMain m → is_op op ≡ true
+    → trans m op ≡ Some new → IsMain new
 trans_keeps_legal m op new h o e = subst IsLegal e (legal_change m op h o)

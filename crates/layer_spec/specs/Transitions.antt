@@ -29,7 +29,8 @@ posted m s = record m { pending = generate m.pending s }
 
 -- a stopped process to which a signal is posted: CONT makes it run again
 abbrev pub woken : MainWord → ℕ → MainWord
-woken m s = if nat_eq s continue_signal then record (posted m s) { kind = Running; report = 2; stop = 0 } else posted m s
+woken m s =
+    if nat_eq s continue_signal then record (posted m s) { kind = Running; report = 2; stop = 0 } else posted m s
 
 abbrev pub without : MainWord → ℕ → MainWord
 without m s = record m { pending = outside m.pending (only s) }
@@ -41,7 +42,8 @@ cleared m s = if contains m.pending s then Some (without m s) else None
 -- stopped by a signal, where it is pending and one that stops
 abbrev pub stopped : MainWord → ℕ → Option MainWord
 stopped m s =
-    if is_stop_signal s && contains m.pending s then Some (record (without m s) { kind = Stopped; stop = s; report = 1 })
+    if is_stop_signal s && contains m.pending s
+    then Some (record (without m s) { kind = Stopped; stop = s; report = 1 })
     else None
 
 abbrev pub sealed : MainWord → ℕ → MainWord
