@@ -22,27 +22,27 @@ use Rattle.layer_spec.specs.Turns.{image_named, has_ended, is_end_of, was_ended}
 abbrev pub exit_told : Win32State → ℕ → ExitWord
 exit_told s p = exit_fields (exit_at s (row_of p))
 
--- The exit word carries the image that p's main word names, with this status, and says whether it was an image fault.
+-- The exit word carries the image that p's main word names, with this status, and tells whether it was a fault.
 pub record ExitWordTells (s : Win32State) (p : ℕ) (v : ℤ) (fault : Bool) : Type 0 where
   pub image : (exit_told s p).image ≡ image_named s p
   pub status : v ≡ pos (exit_told s p).status
   pub by_fault : (exit_told s p).fault ≡ fault
 
--- In the moment before an entry this signal was p's deliverable one, its action was the default, and this ends a process.
+-- In the moment before an entry this signal was p's deliverable one, and its action the default, which ends a process.
 pub record WasDeadly {A : Type 0} (p signal : ℕ) (x : Seen A) : Type 0 where
   pub record_then : Record
   pub known : record_of x.before.posix p ≡ Some record_then
   pub first : deliverable record_then ≡ Some signal
   pub by_default : ends record_then signal ≡ true
 
--- It was so in a moment after p's previous own event: the one right after it, or a later one up to that before this step.
+-- It was so in a moment after p's previous own event: the one right after it, or a later one up to this step.
 pub record IsBySignal {A : Type 0} (step : HistoryStep A) (p : ℕ) (v : ℤ) : Type 0 where
   pub signal : ℕ
   pub status : v ≡ pos (signal_status signal)
   pub seen : SomeSeen (WasDeadly p signal) (call_up_to step p)
 
--- The entry with this number is an `end` that ended the process that p's main word names, and the exit word doesn't carry
--- that process.
+-- The entry with this number is an `end` that ended the process that p's main word names, and the exit word doesn't
+-- carry that process.
 pub record IsByWorld {A : Type 0} (step : HistoryStep A) (p : ℕ) (n : ℤ) : Type 0 where
   pub number : ℕ
   pub told : n ≡ pos number

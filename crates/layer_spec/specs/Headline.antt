@@ -21,7 +21,8 @@ IsScheduledTo script (x ∷ past) at =
     × GivesNext x.before.win32 from from.lines x.entry.directive at
 
 -- The schedule is followed to its end, or to the budget.
-pub record FollowsSchedule {A : Type 0} (script : Script) (past : List (Seen A)) (now : Moment A) (end : End) : Type 0 where
+pub record FollowsSchedule {A : Type 0} (script : Script) (past : List (Seen A)) (now : Moment A) (end : End)
+    : Type 0 where
   pub at : Position
   pub scheduled : IsScheduledTo script past at
   pub within : EndsBy script.setup.limits.budget (length past) now.win32 at.lines end

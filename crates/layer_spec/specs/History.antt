@@ -45,8 +45,8 @@ module _ {A : Type 0} (posted_of : A → Call) (goes : A → Own → Setup → R
 
   -- One step. The entry is a step of the Win32 machine. The thread whose turn it is goes with its own part, whose event
   -- the entry's is; all other parts of live processes stay. The event is a step of the POSIX machine, and without an
-  -- event its state stays. The entry keeps the discipline, and shows what its event needs. After it rows and images show
-  -- the POSIX state.
+  -- event its state stays. The entry keeps the discipline, and shows what its event needs. After it rows and images
+  -- show the POSIX state.
   pub record IsHistoryStep (script : Script) (step : HistoryStep A) : Type 0 where
     pub win32 : DirectiveStep script step.before.win32 step.entry step.after.win32
     pub driven : DrivenBy posted_of goes opening slot_of thread_of script (driven_at step.before None)
