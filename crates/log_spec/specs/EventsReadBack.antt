@@ -44,7 +44,7 @@ key_byte : (a : Bool) (b : ℕ) → (a && (is_byte b && true)) ≡ true → byte
 key_byte a b h = key_byte_is b (parts _ _ (parts a _ h).1).0
 
 shown : (a b : Bool) (bytes : List ℕ)
-  → (a && (b && ((nat_le (length bytes) 64 && list_all is_byte bytes) && true))) ≡ true
+    → (a && (b && ((nat_le (length bytes) 64 && list_all is_byte bytes) && true))) ≡ true
     → bytes_in (bytes_text bytes) ≡ bytes
 shown a b bytes h = bytes_are bytes (parts _ _ (parts _ _ (parts b _ (parts a _ h).1).1).0).1
 

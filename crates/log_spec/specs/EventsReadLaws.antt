@@ -50,7 +50,7 @@ nibble_is : (d : ℕ) → d < 16 → nibble_in (digit_glyph false d) ≡ d
 nibble_is d h = grind (arith, nat_tests)
 
 pair_is : (byte : ℕ) → byte < 256
-  → 16 * nibble_in (digit_glyph false (byte / 16)) + nibble_in (digit_glyph false (byte % 16)) ≡ byte
+    → 16 * nibble_in (digit_glyph false (byte / 16)) + nibble_in (digit_glyph false (byte % 16)) ≡ byte
 pair_is byte h = omega (arith, nibble_is (byte / 16) (omega arith), nibble_is (byte % 16) (omega arith))
 
 pub key_byte_is : (byte : ℕ) → is_byte byte ≡ true → byte_in (byte_text byte) ≡ byte

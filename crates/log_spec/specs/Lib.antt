@@ -11,3 +11,5 @@ pub mod LogCases
 pub mod EventsRead
 pub mod EventsReadLaws
 pub mod EventsReadBack
+pub mod EventsTextLaws
+pub mod EventsOfText
