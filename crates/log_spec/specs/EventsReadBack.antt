@@ -62,7 +62,8 @@ read_back script (event.ForkFail p fork.Rows) h = cc (actor _ p h)
 read_back script (event.ForkFail p fork.Slot) h = cc (actor _ p h)
 read_back script (event.ForkFail p (fork.Placed m found wanted)) h =
     let is_module = is_name m && is_among m (module_names script.setup.modules) in
-    cc (actor _ p h, second (is_actor p) is_module _ found h, third (is_actor p) is_module (is_numeral found) _ wanted h)
+    let number = is_numeral found in
+    cc (actor _ p h, second (is_actor p) is_module _ found h, third (is_actor p) is_module number _ wanted h)
 read_back script (event.ForkFail p (fork.Ended w)) h = cc (actor _ p h, first _ _ w h)
 read_back script (event.Exec p name) h = cc (actor _ p h)
 read_back script (event.ExecFail p exec.NoEntry) h = cc (actor _ p h)

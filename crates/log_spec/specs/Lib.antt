@@ -13,3 +13,4 @@ pub mod EventsReadLaws
 pub mod EventsReadBack
 pub mod EventsTextLaws
 pub mod EventsOfText
+pub mod LogFaultLaws
