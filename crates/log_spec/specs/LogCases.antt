@@ -54,13 +54,15 @@ journal =
 
 events_view : log_text view.Events journal end.Given ≡
     line (codes "log events") ++ (line (codes "key 0 0a") ++ (line (codes "line 3 1 0a") ++
-    (line (codes "write 3 1 61") ++ (line (codes "run 2 2") ++ (line (codes "die 2 0 exit") ++ line (codes "done given"))))))
+    (line (codes "write 3 1 61") ++ (line (codes "run 2 2") ++ (line (codes "die 2 0 exit") ++
+    line (codes "done given"))))))
 unfolding log_text digits
 events_view = refl
 
 calls_view : log_text view.Calls journal end.Quiet ≡
     line (codes "log calls") ++ (line (codes "key 0 0a") ++ (line (codes "die 2 0 exit") ++
-    (line (codes "line 3 1 0a") ++ (line (codes "write 3 1 61") ++ (line (codes "tty 0a61") ++ line (codes "done quiet"))))))
+    (line (codes "line 3 1 0a") ++ (line (codes "write 3 1 61") ++ (line (codes "tty 0a61") ++
+    line (codes "done quiet"))))))
 unfolding log_text digits
 calls_view = refl
 
