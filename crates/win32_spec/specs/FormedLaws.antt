@@ -1,16 +1,16 @@
 -- Well-formed states stay so under a change of handles, an object more, a process more, an end, and a sweep.
-use Rattle.std.proofs.Common.{◌≡◌, ◌≢◌, ◌⊎◌, inl, inr, ℕ, ◌+◌, ◌≤◌, ◌<◌, Bool, true, false, ◌||◌, if◌then◌else◌, nat_eq, List, [], ◌∷◌, Option, Some, None, MatchOption, refl, sym, ap, ◌∙◌, subst, arith}
+use Rattle.std.proofs.Common.{◌≡◌, ◌≢◌, ◌⊎◌, inl, inr, ℕ, true, false, List, Option, Some, None, MatchOption, refl, sym, ap, ◌∙◌, subst, arith}
 use Rattle.std.proofs.lemmas.Bool.{cases_eq}
 use Rattle.script_spec.specs.declared.script.Script.{Script}
 use Rattle.win32_spec.specs.Handles.{Handle, handle_of, AreRisingFrom}
-use Rattle.win32_spec.specs.Objects.{Ownership, Free, Owned, Abandoned, left_by}
+use Rattle.win32_spec.specs.Objects.{Free, Owned, Abandoned}
 use Rattle.win32_spec.specs.State.{Object, Section, Event, Mutex, Pipe, ProcessObject, TerminalObject, NumberedObject, Life, Alive, Ended, Process, Win32State}
-use Rattle.win32_spec.specs.Lookup.{is_alive, process_of, is_live, process_in, object_number, object_of, change_process, add_object, with_handles, with_new_object, IsFresh}
-use Rattle.win32_spec.specs.Ends.{is_object_held, held_objects, is_process_held, kept_processes, swept, object_left_by, objects_left_by, ended_process, with_ended, with_end}
-use Rattle.win32_spec.specs.WellFormed.{AreRisingProcesses, IsHost, IsLayerProcess, has_ends, FitsEnd, IsListed, IsLiveProcess, IsEndedProcess, IsProcessBy, IsOwnership, IsObject, only_number, IsFormed, IsWellFormed}
-use Rattle.win32_spec.specs.LookupLaws.{same, differs, or_true, or_left, or_right, same_some, not_none, process_of-number, process_of-change_same, process_of-change_other, changed_process, rising-change_process}
+use Rattle.win32_spec.specs.Lookup.{is_alive, process_of, is_live, object_number, object_of, change_process, add_object, with_handles, with_new_object, IsFresh}
+use Rattle.win32_spec.specs.Ends.{object_left_by, objects_left_by, ended_process, with_ended}
+use Rattle.win32_spec.specs.WellFormed.{IsHost, IsLayerProcess, has_ends, FitsEnd, IsListed, IsLiveProcess, IsProcessBy, IsObject, only_number, IsFormed}
+use Rattle.win32_spec.specs.LookupLaws.{same, differs, same_some, not_none, process_of-change_same, process_of-change_other, changed_process, rising-change_process}
 use Rattle.win32_spec.specs.ObjectLaws.{object_of-add_new, object_of-add_other, rising-add_object, object_of-left, left_object, rising-left}
-use Rattle.win32_spec.specs.HeldLaws.{IsHeldBy, HaveRisingHandles, held-by, is-held, held_object, held_object-stays, rising-held, process_held-by, is-process_held, kept_process, kept_process-stays, rising-kept}
+use Rattle.win32_spec.specs.HeldLaws.{HaveRisingHandles}
 
 -- of a live process, what a live one keeps to; and of one that has ended, what an ended one does
 pub of_live : (script : Script) (xs : List NumberedObject) (p : Process) (life : Life) → is_alive life ≡ true → IsProcessBy script xs p life
@@ -73,7 +73,6 @@ object_over ps qs (TerminalObject terminal) stays i = tt
 module _ (script : Script) (s : Win32State) (w : ℕ) (p : Process) (hs : List Handle) (h : IsFormed script s)
     (found : process_of s.processes w ≡ Some p) (alive : is_alive p.life ≡ true) (rising : AreRisingFrom 1 hs)
     (naming : (k names : ℕ) → handle_of hs k ≡ Some names → IsListed s.objects names) where
-
   its_kind : MatchOption p.program (IsHost p) (IsLayerProcess script p)
       → MatchOption p.program (IsHost (record p { handles = hs })) (IsLayerProcess script (record p { handles = hs }))
   its_kind k = by_program p.program k
@@ -119,6 +118,7 @@ module _ (script : Script) (s : Win32State) (w : ℕ) (p : Process) (hs : List H
             | inl other ↦ (y, other.1, refl, refl)
             | inr this ↦ (this.1, rw this.0 this.2, ap (λ (z : Process). z.life) (sym this.3), ap (λ (z : Process). z.slot) (sym this.3))
           ]
+
       after_it : (x : ℕ) (y : Process) → process_of s.processes x ≡ Some y
           → (z : Process) × (process_of (change_process w (λ q. record q { handles = hs }) s.processes) x ≡ Some z) × (z.life ≡ y.life)
       after_it x y e =
@@ -137,7 +137,7 @@ formed-with_new_object script s o x h fresh rule only = record {
   objects = rising-add_object o x 0 s.objects h.objects (omega arith) fresh.even fresh.free;
   process = λ v p e. with_objects script s.objects new p p.life more (h.process v p e);
   one_a_slot = h.one_a_slot;
-  object = λ a y e. elim (which a y e) [ | inl old ↦ h.object a y old.1 | inr this ↦ subst (λ z. IsObject s.processes z) (sym this.1) rule ];
+  object = λ a y e. elim (which a y e) [ inl old ↦ h.object a y old.1 | inr this ↦ subst (λ z. IsObject s.processes z) (sym this.1) rule ];
   only = λ a b y z k e f m n.
       elim (which a y e) [
         | inl old ↦ elim (which b z f) [
@@ -153,6 +153,7 @@ formed-with_new_object script s o x h fresh rule only = record {
   where
     new : List NumberedObject
     new = add_object o x s.objects
+
     which : (a : ℕ) (y : Object) → object_of (add_object o x s.objects) a ≡ Some y
         → ((a ≢ o) × (object_of s.objects a ≡ Some y)) ⊎ ((a ≡ o) × (y ≡ x))
     which a y e =
@@ -160,6 +161,7 @@ formed-with_new_object script s o x h fresh rule only = record {
           | inl n ↦ inr (n, same_some (object_of (add_object o x s.objects) o) y x (rw n at e) (object_of-add_new o x s.objects fresh.free))
           | inr d ↦ inl (d, sym (object_of-add_other o x s.objects a d) ∙ e)
         ]
+
     more : (names : ℕ) → IsListed s.objects names → IsListed (add_object o x s.objects) names
     more names listed =
         let at = from_listed s.objects names listed in
@@ -184,7 +186,6 @@ has_ends-left w (ProcessObject v) = refl
 has_ends-left w (TerminalObject terminal) = refl
 
 module _ (script : Script) (s : Win32State) (w code : ℕ) (p : Process) (h : IsFormed script s) (found : process_of s.processes w ≡ Some p) where
-
   -- a process after the end is another one, or this one
   ended_which : (v : ℕ) (q : Process) → process_of (change_process w (ended_process code) s.processes) v ≡ Some q
       → ((v ≢ w) × (process_of s.processes v ≡ Some q)) ⊎ ((v ≡ w) × (r : Process) × (process_of s.processes w ≡ Some r) × (q ≡ ended_process code r))

@@ -1,5 +1,5 @@
 -- Laws of a list of handles.
-use Rattle.std.proofs.Common.{◌≡◌, ◌≢◌, ◌⊎◌, inl, inr, ℕ, ◌+◌, ◌≤◌, ◌<◌, Bool, true, false, if◌then◌else◌, nat_eq, nat_lt, List, [], ◌∷◌, length, Option, Some, None, IsSome, refl, sym, ap, ◌∙◌, arith}
+use Rattle.std.proofs.Common.{◌≡◌, ◌≢◌, ◌⊎◌, inl, inr, ℕ, ◌+◌, ◌≤◌, ◌<◌, Bool, true, false, if◌then◌else◌, nat_eq, List, [], ◌∷◌, length, Some, None, IsSome, refl, sym, ap, ◌∙◌, arith}
 use Rattle.std.proofs.lemmas.Bool.{cases_eq, cases_lt}
 use Rattle.std.proofs.lemmas.Bool.Decides.{nat_tests}
 use Rattle.win32_spec.specs.Handles.{Handle, handle_of, with_handle, without_handle, listed_handles, is_listed, AreRisingFrom, IsLowestFree}
@@ -122,7 +122,7 @@ listed_handle low (p ∷ hs) ns h o r e = by_test (is_listed ns p.number) (liste
 pub lowest-within : (low : ℕ) (hs : List Handle) (h : ℕ) → AreRisingFrom low hs → ((k : ℕ) → low ≤ k → k < h → IsSome (handle_of hs k))
     → h ≤ low + length hs
 lowest-within low [] h r used =
-    elim (cases_lt low h) [ | inl l ↦ absurd (let e : false ≡ true = used low (omega arith) l in cc) | inr l ↦ omega arith ]
+    elim (cases_lt low h) [ inl l ↦ absurd (let e : false ≡ true = used low (omega arith) l in cc) | inr l ↦ omega arith ]
 lowest-within low (p ∷ hs) h r used =
     elim (cases_lt low h) [
       | inr l ↦ omega arith
@@ -163,9 +163,12 @@ named_object low (p ∷ hs) o r e = by_test (or_true (nat_eq (object_number p.na
         → (names_object hs o ≡ true → (h : ℕ) × (names : ℕ) × (handle_of hs h ≡ Some names) × (object_number names ≡ o))
         → (h : ℕ) × (names : ℕ) × (handle_of (p ∷ hs) h ≡ Some names) × (object_number names ≡ o)
     by_test (inl t) rest =
-        let s = same p.number p.number refl in
-        (p.number, p.names, rw s refl,
-        elim (cases_eq (object_number p.names) o) [ | inl n ↦ n | inr d ↦ let u = differs (object_number p.names) o d in absurd (cc) ])
+        let s = same p.number p.number refl in (
+          p.number,
+          p.names,
+          rw s refl,
+          elim (cases_eq (object_number p.names) o) [ inl n ↦ n | inr d ↦ let u = differs (object_number p.names) o d in absurd (cc) ],
+        )
     by_test (inr t) rest =
         let found = rest t in
         elim (cases_eq p.number found.0) [

@@ -1,7 +1,7 @@
 -- Laws of what somebody holds, and of what is left without the rest.
-use Rattle.std.proofs.Common.{◌≡◌, ◌≢◌, ◌⊎◌, inl, inr, ℕ, ◌+◌, ◌≤◌, ◌<◌, Bool, true, false, ◌&&◌, ◌||◌, if◌then◌else◌, nat_eq, List, [], ◌∷◌, Option, Some, None, refl, sym, ap, ◌∙◌, arith}
+use Rattle.std.proofs.Common.{◌≡◌, ◌⊎◌, inl, inr, ℕ, ◌+◌, Bool, true, false, ◌&&◌, ◌||◌, if◌then◌else◌, nat_eq, List, [], ◌∷◌, Some, refl, sym, ap, ◌∙◌, arith}
 use Rattle.std.proofs.lemmas.Bool.{cases_eq}
-use Rattle.win32_spec.specs.Handles.{Handle, handle_of, AreRisingFrom}
+use Rattle.win32_spec.specs.Handles.{handle_of, AreRisingFrom}
 use Rattle.win32_spec.specs.State.{Object, Section, Event, Mutex, Pipe, ProcessObject, TerminalObject, NumberedObject, Process}
 use Rattle.win32_spec.specs.Lookup.{is_alive, process_of, object_number, object_of}
 use Rattle.win32_spec.specs.Ends.{names_object, is_object_held, held_objects, is_object_of, is_process_held, kept_processes}
@@ -36,8 +36,10 @@ held-by low next (p ∷ ps) o r handles e =
           | inl n ↦ absurd (not_none (process_of ps w) q f (rising-absent (p.number + 1) next ps w r.2 (inl (omega (arith, n)))))
           | inr d ↦ let s = differs p.number w d in rw s f
         ]
+
     first : process_of (p ∷ ps) p.number ≡ Some p
     first = let s = same p.number p.number refl in rw s refl
+
     by_test : ((is_alive p.life && names_object p.handles o) ≡ true) ⊎ (is_object_held ps o ≡ true) → (is_object_held ps o ≡ true → IsHeldBy ps o)
         → IsHeldBy (p ∷ ps) o
     by_test (inl t) rest =
@@ -46,8 +48,16 @@ held-by low next (p ∷ ps) o r handles e =
         record { number = p.number; process = p; found = first; alive = both.0; handle = at.0; names = at.1; named = at.2; object = at.3 }
     by_test (inr t) rest =
         let at = rest t in
-        record { number = at.number; process = at.process; found = later at.number at.process at.found; alive = at.alive;
-          handle = at.handle; names = at.names; named = at.named; object = at.object }
+        record {
+          number = at.number;
+          process = at.process;
+          found = later at.number at.process at.found;
+          alive = at.alive;
+          handle = at.handle;
+          names = at.names;
+          named = at.named;
+          object = at.object;
+        }
 
 pub is-held : (ps : List Process) (o : ℕ) → IsHeldBy ps o → is_object_held ps o ≡ true
 is-held [] o held = absurd (let e = held.found in cc)
@@ -63,8 +73,16 @@ is-held (p ∷ ps) o held =
       | inr d ↦
           let s = differs p.number held.number d in
           or_right (is_alive p.life && names_object p.handles o) (is_object_held ps o)
-          (is-held ps o (record { number = held.number; process = held.process; found = rw s at held.found; alive = held.alive;
-            handle = held.handle; names = held.names; named = held.named; object = held.object }))
+          (is-held ps o (record {
+            number = held.number;
+            process = held.process;
+            found = rw s at held.found;
+            alive = held.alive;
+            handle = held.handle;
+            names = held.names;
+            named = held.named;
+            object = held.object;
+          }))
     ]
 
 -- The objects that somebody holds.
@@ -122,12 +140,13 @@ process_held-by low (z ∷ xs) w r e =
     by_test (or_true (is_object_of z.object w) (is_process_held xs w) e) (process_held-by (z.number + 1) xs w r.2)
   where
     is_its : (x : Object) → is_object_of x w ≡ true → x ≡ ProcessObject w
-    is_its (ProcessObject v) t = elim (cases_eq v w) [ | inl n ↦ ap ProcessObject n | inr d ↦ let s = differs v w d in absurd (cc) ]
+    is_its (ProcessObject v) t = elim (cases_eq v w) [ inl n ↦ ap ProcessObject n | inr d ↦ let s = differs v w d in absurd (cc) ]
     is_its (Section words) t = absurd (cc)
     is_its (Event e) t = absurd (cc)
     is_its (Mutex owner) t = absurd (cc)
     is_its (Pipe bytes) t = absurd (cc)
     is_its (TerminalObject terminal) t = absurd (cc)
+
     by_test : (is_object_of z.object w ≡ true) ⊎ (is_process_held xs w ≡ true)
         → (is_process_held xs w ≡ true → (o : ℕ) × (object_of xs o ≡ Some (ProcessObject w)))
         → (o : ℕ) × (object_of (z ∷ xs) o ≡ Some (ProcessObject w))

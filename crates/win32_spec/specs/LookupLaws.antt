@@ -1,10 +1,10 @@
 -- Laws of finding and changing processes and objects.
-use Rattle.std.proofs.Common.{◌≡◌, ◌≢◌, ◌⊎◌, inl, inr, ℕ, ◌+◌, ◌≤◌, ◌<◌, Bool, true, false, ◌&&◌, ◌||◌, if◌then◌else◌, nat_eq, nat_lt, List, [], ◌∷◌, Option, Some, None, refl, sym, ap, ◌∙◌, arith}
-use Rattle.std.proofs.lemmas.Bool.{cases_eq, cases_lt}
+use Rattle.std.proofs.Common.{◌≡◌, ◌≢◌, ◌⊎◌, inl, inr, ℕ, ◌+◌, ◌≤◌, ◌<◌, Bool, true, false, ◌&&◌, ◌||◌, nat_eq, nat_lt, List, [], ◌∷◌, Option, Some, None, refl, sym, ap, ◌∙◌, arith}
+use Rattle.std.proofs.lemmas.Bool.{cases_eq}
 use Rattle.std.proofs.lemmas.Bool.Decides.{nat_tests}
-use Rattle.win32_spec.specs.State.{Object, NumberedObject, Process}
-use Rattle.win32_spec.specs.Lookup.{is_alive, process_of, process_in, object_number, object_of, change_process, change_object, add_process, add_object}
-use Rattle.win32_spec.specs.WellFormed.{AreRisingProcesses, AreRisingObjects}
+use Rattle.win32_spec.specs.State.{Process}
+use Rattle.win32_spec.specs.Lookup.{is_alive, process_of, process_in, change_process, add_process}
+use Rattle.win32_spec.specs.WellFormed.{AreRisingProcesses}
 
 -- what the tests tell
 pub same : (n m : ℕ) → n ≡ m → nat_eq n m ≡ true
@@ -89,9 +89,13 @@ changed_process w f keeps ps v q e =
   where
     at_same : v ≡ w → (o : Option Process) → process_of ps w ≡ o → (v ≡ w) × (p : Process) × (process_of ps w ≡ Some p) × (q ≡ f p)
     at_same n None h = absurd (not_none (process_of (change_process w f ps) w) q (ap (λ x. process_of (change_process w f ps) x) (sym n) ∙ e) (process_of-change_none w f ps h))
-    at_same n (Some p) h =
-        (n, p, h, same_some (process_of (change_process w f ps) w) q (f p) (ap (λ x. process_of (change_process w f ps) x) (sym n) ∙ e)
-        (process_of-change_same w f keeps ps p h))
+    at_same n (Some p) h = (
+      n,
+      p,
+      h,
+      same_some (process_of (change_process w f ps) w) q (f p) (ap (λ x. process_of (change_process w f ps) x) (sym n) ∙ e)
+          (process_of-change_same w f keeps ps p h),
+    )
 
 pub rising-change_process : (w : ℕ) (f : Process → Process) → ((p : Process) → (f p).number ≡ p.number) → (low next : ℕ) (ps : List Process)
     → AreRisingProcesses low next ps → AreRisingProcesses low next (change_process w f ps)
@@ -122,7 +126,7 @@ rising-absent low next ps w r out = by_answer (process_of ps w) refl
   where
     by_answer : (o : Option Process) → process_of ps w ≡ o → o ≡ None
     by_answer None e = refl
-    by_answer (Some p) e = let b = rising-bounds low next ps w p r e in absurd (elim out [ | inl l ↦ omega (arith, b.0) | inr l ↦ omega (arith, b.1) ])
+    by_answer (Some p) e = let b = rising-bounds low next ps w p r e in absurd (elim out [ inl l ↦ omega (arith, b.0) | inr l ↦ omega (arith, b.1) ])
 
 -- the process in a slot is alive, stands there, and is found by its number
 pub process_in-found : (low next : ℕ) (ps : List Process) (slot : ℕ) (p : Process) → AreRisingProcesses low next ps → process_in ps slot ≡ Some p
@@ -141,7 +145,7 @@ process_in-found low next (q ∷ ps) slot p r e =
         rw g (rw s refl, rw (← g) both.0, rw (← g) (slot_is both.1))
       where
         slot_is : nat_eq q.slot slot ≡ true → q.slot ≡ slot
-        slot_is h = elim (cases_eq q.slot slot) [ | inl n ↦ n | inr d ↦ let s = differs q.slot slot d in absurd (cc) ]
+        slot_is h = elim (cases_eq q.slot slot) [ inl n ↦ n | inr d ↦ let s = differs q.slot slot d in absurd (cc) ]
     by_test false t rest =
         let f : process_in ps slot ≡ Some p = rw t at e in
         let found = rest f in

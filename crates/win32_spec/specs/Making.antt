@@ -4,7 +4,8 @@ use Rattle.w32_base.specs.declared.call.Call.{Call}
 use Rattle.w32_base.specs.declared.call.Call.TheVariants as call
 use Rattle.w32_base.specs.declared.own.Own.{Own}
 use Rattle.w32_base.specs.declared.setup.Program.{Program}
-use Rattle.vm_spec.specs.Image.{with_word}
+use Rattle.vm_spec.specs.Image.{with_image}
+use Rattle.vm_spec.specs.NewImage.{new_image}
 use Rattle.win32_spec.specs.Handles.{Handle}
 use Rattle.win32_spec.specs.Regions.{zeroed_own}
 use Rattle.win32_spec.specs.State.{Thread, Alive, Process}
@@ -27,10 +28,9 @@ new_thread t suspended = record { number = t; suspended = suspended; posted = op
 abbrev pub new_threads : ℕ → List Thread
 new_threads main_suspended = new_thread 0 main_suspended ∷ new_thread 1 1 ∷ new_thread 2 1 ∷ []
 
--- the memory of a process that was just made, for the program with this number: zeros but for that number, at 40
+-- the memory of a process that was just made, for the program with this number: the program's new image, and zeros
 unfoldable pub new_memory : ℕ → Program → Own
-new_memory number program =
-    let zeros = zeroed_own program.heap program.stack in record zeros { dat = with_word zeros.dat 40 number }
+new_memory number program = with_image (zeroed_own program.heap program.stack) (new_image number program)
 
 -- a layer process that was just made, with its main thread suspended so often
 abbrev pub new_process : (number slot program_no : ℕ) → Program → (main_suspended : ℕ) → List Handle → Process

@@ -1,5 +1,5 @@
 -- The calls on the memory of processes: `run`, `readmem` and `writemem`.
-use Rattle.std.specs.Prelude.{◌≡◌, ℕ, Bool, ◌&&◌, nat_le, List, [], length, Option, Some, None, slice_get, MatchBool, MatchOption}
+use Rattle.std.specs.Prelude.{ℕ, Bool, ◌&&◌, nat_le, List, [], length, Option, Some, None, slice_get, MatchBool, MatchOption}
 use Rattle.w32_base.specs.declared.call.Region.{Region}
 use Rattle.w32_base.specs.declared.call.Reply.{Reply}
 use Rattle.w32_base.specs.declared.call.Reply.TheVariants as reply
@@ -8,7 +8,7 @@ use Rattle.w32_base.specs.declared.own.Own.{Own}
 use Rattle.w32_base.specs.declared.setup.Program.{Program}
 use Rattle.script_spec.specs.declared.script.Script.{Script}
 use Rattle.vm_spec.specs.Image.{image_of, with_image}
-use Rattle.vm_spec.specs.Step.{block_of, IsBlock}
+use Rattle.vm_spec.specs.Block.{block_length, block_image}
 use Rattle.win32_spec.specs.Regions.{region_of, with_region, is_inside, range_of, written}
 use Rattle.win32_spec.specs.State.{Process, Win32State}
 use Rattle.win32_spec.specs.Lookup.{process_of, memory_by, with_own}
@@ -31,17 +31,16 @@ instructions_of (Some program) = program.code
 abbrev pub code_of : Script → ℕ → List Instr
 code_of script program_no = instructions_of (slice_get script.setup.programs program_no)
 
--- a block of n local instructions of a program is carried out on the image of process w
-pub record Runs (code : List Instr) (s : Win32State) (w : ℕ) (r : Reply) (new : Win32State) : Type 0 where
-  pub count : ℕ
-  pub block : IsBlock code (image_of (memory_by s w)) count
-  pub answered : r ≡ reply.Ran count
-  pub after : new ≡ with_own s w (with_image (memory_by s w) (block_of count code (image_of (memory_by s w))))
+-- a block of local instructions is carried out on the image of process w
+abbrev pub BlockStep : List Instr → Win32State → ℕ → Reply → Win32State → Type 0
+BlockStep code s w r new =
+    let image = image_of (memory_by s w) in
+    Gives (reply.Ran (block_length code image)) (with_own s w (with_image (memory_by s w) (block_image code image))) r new
 
 -- `run`: a block of local instructions of the caller's program on its image. The host has no program and runs none.
 abbrev pub RunStep : Script → Win32State → ℕ → Reply → Win32State → Type 0
 RunStep script s w r new =
-    MatchOption (program_no_by s w) (Gives (reply.Ran 0) s r new) (λ program_no. Runs (code_of script program_no) s w r new)
+    MatchOption (program_no_by s w) (Gives (reply.Ran 0) s r new) (λ program_no. BlockStep (code_of script program_no) s w r new)
 
 -- whether a range lies in a region
 abbrev pub has_range : Own → Region → ℕ → ℕ → Bool

@@ -1,5 +1,5 @@
 -- Laws of finding and changing objects.
-use Rattle.std.proofs.Common.{◌≡◌, ◌≢◌, ◌⊎◌, inl, inr, ℕ, ◌+◌, ◌≤◌, ◌<◌, Bool, true, false, if◌then◌else◌, nat_eq, nat_lt, List, [], ◌∷◌, Option, Some, None, refl, sym, ap, ◌∙◌, arith}
+use Rattle.std.proofs.Common.{◌≡◌, ◌≢◌, ◌⊎◌, inl, inr, ℕ, ◌+◌, ◌≤◌, List, [], ◌∷◌, Option, Some, None, refl, sym, ap, ◌∙◌, arith}
 use Rattle.std.proofs.lemmas.Bool.{cases_eq, cases_lt}
 use Rattle.win32_spec.specs.State.{Object, NumberedObject}
 use Rattle.win32_spec.specs.Lookup.{object_number, object_of, change_object, add_object}
@@ -47,9 +47,13 @@ changed_object o y xs a z e =
     at_same : a ≡ o → (found : Option Object) → object_of xs o ≡ found → (a ≡ o) × (x : Object) × (object_of xs o ≡ Some x) × (z ≡ y)
     at_same n None h =
         absurd (not_none (object_of (change_object o y xs) o) z (ap (λ k. object_of (change_object o y xs) k) (sym n) ∙ e) (object_of-change_none o y xs o h))
-    at_same n (Some x) h =
-        (n, x, h, same_some (object_of (change_object o y xs) o) z y (ap (λ k. object_of (change_object o y xs) k) (sym n) ∙ e)
-        (object_of-change_same o y xs x h))
+    at_same n (Some x) h = (
+      n,
+      x,
+      h,
+      same_some (object_of (change_object o y xs) o) z y (ap (λ k. object_of (change_object o y xs) k) (sym n) ∙ e)
+          (object_of-change_same o y xs x h),
+    )
 
 pub rising-change_object : (o : ℕ) (y : Object) (low : ℕ) (xs : List NumberedObject) → AreRisingObjects low xs → AreRisingObjects low (change_object o y xs)
 rising-change_object o y low [] r = tt

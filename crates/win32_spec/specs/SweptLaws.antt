@@ -1,18 +1,17 @@
 -- What is left when nothing stands that nobody holds is well formed.
-use Rattle.std.proofs.Common.{◌≡◌, ℕ, Bool, true, false, ◌||◌, List, Some, refl, sym, ap, ◌∙◌, subst}
+use Rattle.std.proofs.Common.{◌≡◌, ℕ, true, ◌||◌, Some, refl, ap}
 use Rattle.script_spec.specs.declared.script.Script.{Script}
 use Rattle.win32_spec.specs.Handles.{handle_of}
-use Rattle.win32_spec.specs.Objects.{Ownership, Free, Owned, Abandoned}
-use Rattle.win32_spec.specs.State.{Object, Section, Event, Mutex, Pipe, ProcessObject, TerminalObject, NumberedObject, Life, Alive, Ended, Process, Win32State}
+use Rattle.win32_spec.specs.Objects.{Free, Owned, Abandoned}
+use Rattle.win32_spec.specs.State.{Object, Section, Event, Mutex, Pipe, ProcessObject, TerminalObject, Life, Alive, Ended, Process, Win32State}
 use Rattle.win32_spec.specs.Lookup.{is_alive, process_of, object_number, object_of}
 use Rattle.win32_spec.specs.Ends.{is_object_held, held_objects, is_process_held, kept_processes, swept}
 use Rattle.win32_spec.specs.WellFormed.{IsListed, IsProcessBy, IsObject, IsFormed, IsWellFormed}
-use Rattle.win32_spec.specs.LookupLaws.{or_left, or_right, same_some}
-use Rattle.win32_spec.specs.HeldLaws.{IsHeldBy, held-by, is-held, held_object, held_object-stays, rising-held, process_held-by, is-process_held, kept_process, kept_process-stays, rising-kept}
-use Rattle.win32_spec.specs.FormedLaws.{of_live, to_listed, from_listed, live_found, found_live, have_rising}
+use Rattle.win32_spec.specs.LookupLaws.{or_left, or_right}
+use Rattle.win32_spec.specs.HeldLaws.{held-by, is-held, held_object, held_object-stays, rising-held, is-process_held, kept_process, kept_process-stays, rising-kept}
+use Rattle.win32_spec.specs.FormedLaws.{to_listed, from_listed, live_found, found_live, have_rising}
 
 module _ (script : Script) (s : Win32State) (h : IsFormed script s) where
-
   kept : (w : ℕ) (p : Process) → process_of (kept_processes (held_objects s.processes s.objects) s.processes) w ≡ Some p
       → (process_of s.processes w ≡ Some p) × ((is_alive p.life || is_process_held (held_objects s.processes s.objects) w) ≡ true)
   kept w p e = kept_process (held_objects s.processes s.objects) 1 s.next s.processes w p h.processes e
@@ -39,8 +38,12 @@ module _ (script : Script) (s : Win32State) (h : IsFormed script s) where
     where
       by_life : (life : Life) → p.life ≡ life → IsProcessBy script s.objects p life → IsProcessBy script (held_objects s.processes s.objects) p life
       by_life Alive l f =
-          record { kind = f.kind; threads = f.threads; rising = f.rising;
-            naming = λ k names n. stays_listed w p e (ap is_alive l) k names n (f.naming k names n) }
+          record {
+            kind = f.kind;
+            threads = f.threads;
+            rising = f.rising;
+            naming = λ k names n. stays_listed w p e (ap is_alive l) k names n (f.naming k names n);
+          }
       by_life (Ended code) l f = record { threads = f.threads; handles = f.handles; own = f.own; placed = f.placed }
 
   swept_object : (o : ℕ) (x : Object) → object_of (held_objects s.processes s.objects) o ≡ Some x → IsObject s.processes x
@@ -53,10 +56,12 @@ module _ (script : Script) (s : Win32State) (h : IsFormed script s) where
       let p = live_found (process_of s.processes v) i.0 in
       (found_live (process_of (kept_processes (held_objects s.processes s.objects) s.processes) v) p.0 (stays_alive v p.0 p.1 p.2) p.2, i.1)
   swept_object o (Pipe bytes) e i = i
-  swept_object o (ProcessObject v) e i =
-      (i.0, kept_process-stays (held_objects s.processes s.objects) s.processes v i.0 i.1
-      (or_right (is_alive i.0.life) (is_process_held (held_objects s.processes s.objects) v)
-      (is-process_held (held_objects s.processes s.objects) v o e)))
+  swept_object o (ProcessObject v) e i = (
+    i.0,
+    kept_process-stays (held_objects s.processes s.objects) s.processes v i.0 i.1
+        (or_right (is_alive i.0.life) (is_process_held (held_objects s.processes s.objects) v)
+        (is-process_held (held_objects s.processes s.objects) v o e)),
+  )
   swept_object o (TerminalObject terminal) e i = tt
 
   swept_formed : IsFormed script (swept s)
@@ -77,7 +82,15 @@ module _ (script : Script) (s : Win32State) (h : IsFormed script s) where
     object_held = λ o x e.
         let at = held-by 1 s.next s.processes o h.processes (have_rising script s h) (held_object s.processes s.objects o x e).1 in
         is-held (kept_processes (held_objects s.processes s.objects) s.processes) o
-        (record { number = at.number; process = at.process; found = stays_alive at.number at.process at.found at.alive; alive = at.alive;
-          handle = at.handle; names = at.names; named = at.named; object = at.object });
+        (record {
+          number = at.number;
+          process = at.process;
+          found = stays_alive at.number at.process at.found at.alive;
+          alive = at.alive;
+          handle = at.handle;
+          names = at.names;
+          named = at.named;
+          object = at.object;
+        });
     process_held = λ w p e dead. let keep = (kept w p e).1 in rw dead at keep;
   }

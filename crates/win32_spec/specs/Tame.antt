@@ -1,10 +1,9 @@
 -- Changes that leave handles, lives and kinds alone: of threads, of bytes, of placed modules and of what objects hold.
-use Rattle.std.specs.Prelude.{◌≡◌, ◌⊎◌, ℕ, ◌≤◌, true, false, List, [], length, Option, Some, None}
+use Rattle.std.specs.Prelude.{◌≡◌, ◌⊎◌, ℕ, ◌≤◌, false, List, length, Option, Some, None}
 use Rattle.w32_base.specs.Part.{KeepsLengths}
-use Rattle.w32_base.specs.declared.setup.Module.{Module}
 use Rattle.script_spec.specs.declared.script.Script.{Script}
-use Rattle.win32_spec.specs.Objects.{Ownership, Free, Owned}
-use Rattle.win32_spec.specs.State.{Object, Section, Event, Mutex, Pipe, ProcessObject, TerminalObject, NumberedObject, Thread, PlacedModule, Process, Win32State}
+use Rattle.win32_spec.specs.Objects.{Free, Owned}
+use Rattle.win32_spec.specs.State.{Object, Section, Event, Mutex, Pipe, ProcessObject, TerminalObject, NumberedObject, Process, Win32State}
 use Rattle.win32_spec.specs.Lookup.{is_alive, process_of, object_of}
 use Rattle.win32_spec.specs.WellFormed.{AreRisingProcesses, AreRisingObjects, AreThreads, AreModules, has_ends, only_number}
 

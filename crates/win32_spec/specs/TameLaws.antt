@@ -1,20 +1,15 @@
 -- A well-formed state stays so under a change that leaves handles, lives and kinds alone.
-use Rattle.std.proofs.Common.{◌≡◌, ◌≢◌, ◌⊎◌, inl, inr, ℕ, ◌+◌, ◌≤◌, ◌<◌, Bool, true, false, List, [], ◌∷◌, length, Option, Some, None, MatchOption, refl, sym, ap, ◌∙◌, subst, arith}
-use Rattle.std.proofs.lemmas.Bool.{cases_eq}
+use Rattle.std.proofs.Common.{◌≡◌, inl, inr, ℕ, ◌≤◌, true, List, Option, Some, None, MatchOption, refl, sym, ap, ◌∙◌, subst}
 use Rattle.w32_base.specs.Part.{KeepsLengths}
 use Rattle.script_spec.specs.declared.script.Script.{Script}
-use Rattle.win32_spec.specs.Handles.{Handle, handle_of, AreRisingFrom}
-use Rattle.win32_spec.specs.Objects.{Ownership, Free, Owned, Abandoned}
-use Rattle.win32_spec.specs.State.{Object, Section, Event, Mutex, Pipe, ProcessObject, TerminalObject, NumberedObject, Life, Alive, Ended, Process, Win32State}
-use Rattle.win32_spec.specs.Lookup.{is_alive, process_of, is_live, object_number, object_of, change_process, change_object}
-use Rattle.win32_spec.specs.Ends.{is_object_held, is_process_held}
+use Rattle.win32_spec.specs.State.{Object, Section, Event, Mutex, Pipe, ProcessObject, TerminalObject, Life, Alive, Ended, Process, Win32State}
+use Rattle.win32_spec.specs.Lookup.{is_alive, process_of, is_live, object_number, object_of}
+use Rattle.win32_spec.specs.Ends.{is_object_held}
 use Rattle.win32_spec.specs.Making.{threads_of}
-use Rattle.win32_spec.specs.WellFormed.{HasSizes, IsHost, IsLayerProcess, AreRisingProcesses, has_ends, only_number, FitsEnd, IsListed, IsLiveProcess, IsEndedProcess, IsProcessBy, IsOwnership, IsObject, IsFormed, IsWellFormed}
-use Rattle.win32_spec.specs.LookupLaws.{same_some, not_none, process_of-change_same, process_of-change_other, rising-change_process}
-use Rattle.win32_spec.specs.ObjectLaws.{object_of-change_same, object_of-change_other, rising-change_object}
-use Rattle.win32_spec.specs.HeldLaws.{IsHeldBy, held-by, is-held, process_held-by, is-process_held}
-use Rattle.win32_spec.specs.FormedLaws.{of_live, to_live, to_listed, from_listed, live_found, found_live, object_over, have_rising}
-use Rattle.win32_spec.specs.Tame.{Both, ProcessBecomes, HoldsNext, ObjectBecomes, AreProcessesNext, AreObjectsNext, IsTame}
+use Rattle.win32_spec.specs.WellFormed.{HasSizes, IsHost, IsLayerProcess, IsListed, IsEndedProcess, IsProcessBy, IsOwnership, IsObject, IsFormed, IsWellFormed}
+use Rattle.win32_spec.specs.HeldLaws.{held-by, is-held, process_held-by, is-process_held}
+use Rattle.win32_spec.specs.FormedLaws.{to_listed, from_listed, object_over, have_rising}
+use Rattle.win32_spec.specs.Tame.{Both, ProcessBecomes, HoldsNext, ObjectBecomes, IsTame}
 
 -- what was before and what is after
 pub both_back : {X : Type 0} (R : X → X → Type 0) (o n : Option X) (y : X) → Both R o n → n ≡ Some y → (x : X) × (o ≡ Some x) × R x y
@@ -71,7 +66,7 @@ object_stays Exchanged w t ps (Event e) (Event new) live few h i = tt
 object_stays Exchanged w t ps (Mutex owner) (Mutex new) live few h i =
     elim h [
       | inl e ↦ subst (IsOwnership ps) (sym e) i
-      | inr rest ↦ elim rest [ | inl e ↦ subst (IsOwnership ps) (sym e) tt | inr e ↦ subst (IsOwnership ps) (sym e) (live, few) ]
+      | inr rest ↦ elim rest [ inl e ↦ subst (IsOwnership ps) (sym e) tt | inr e ↦ subst (IsOwnership ps) (sym e) (live, few) ]
     ]
 object_stays Exchanged w t ps (Pipe bytes) (Pipe new) live few h i = h i
 object_stays Exchanged w t ps (ProcessObject v) (ProcessObject new) live few h i = rw h i
@@ -85,7 +80,6 @@ process_object-stays Exchanged w t v _ h = absurd h
 
 module _ (script : Script) (Written : ℕ → Type 0) (Exchanged : Type 0) (w t : ℕ) (s new : Win32State) (h : IsFormed script s)
     (tame : IsTame script Written Exchanged w t s new) where
-
   back : (v : ℕ) (q : Process) → process_of new.processes v ≡ Some q
       → (p : Process) × (process_of s.processes v ≡ Some p) × ProcessBecomes script (Written v) p q
   back v q e = both_back (ProcessBecomes script (Written v)) (process_of s.processes v) (process_of new.processes v) q (tame.processes.process v) e
@@ -141,14 +135,21 @@ module _ (script : Script) (Written : ℕ → Type 0) (Exchanged : Type 0) (w t 
 
 module _ (script : Script) (Written : ℕ → Type 0) (Exchanged : Type 0) (w t : ℕ) (s new : Win32State) (h : IsWellFormed script s)
     (tame : IsTame script Written Exchanged w t s new) where
-
   -- what is held stays held
   pub held-tame : (o : ℕ) → is_object_held s.processes o ≡ true → is_object_held new.processes o ≡ true
   held-tame o e =
       let at = held-by 1 s.next s.processes o h.formed.processes (have_rising script s h.formed) e in
       let q = forth script Written Exchanged w t s new h.formed tame at.number at.process at.found in
-      is-held new.processes o (record { number = at.number; process = q.0; found = q.1; alive = ap is_alive q.2.life ∙ at.alive;
-        handle = at.handle; names = at.names; named = rw q.2.handles at.named; object = at.object })
+      is-held new.processes o (record {
+        number = at.number;
+        process = q.0;
+        found = q.1;
+        alive = ap is_alive q.2.life ∙ at.alive;
+        handle = at.handle;
+        names = at.names;
+        named = rw q.2.handles at.named;
+        object = at.object;
+      })
 
   pub wellformed-tame : is_live (process_of s.processes w) ≡ true → t ≤ 2 → IsWellFormed script new
   wellformed-tame live few = record {

@@ -1,14 +1,13 @@
 -- The changes of one process or one object that leave handles, lives and kinds alone.
-use Rattle.std.proofs.Common.{◌≡◌, ◌≢◌, ◌⊎◌, inl, inr, ℕ, ◌+◌, ◌≤◌, ◌<◌, Bool, true, false, List, [], ◌∷◌, length, Option, Some, None, refl, sym, ap, ◌∙◌, subst, arith}
+use Rattle.std.proofs.Common.{◌≡◌, inl, inr, ℕ, List, Option, Some, None, refl, sym, subst}
 use Rattle.std.proofs.lemmas.Bool.{cases_eq}
 use Rattle.w32_base.specs.Part.{KeepsLengths}
 use Rattle.w32_base.specs.declared.own.Own.{Own}
 use Rattle.script_spec.specs.declared.script.Script.{Script}
 use Rattle.win32_spec.specs.State.{Object, Section, Event, Mutex, Pipe, ProcessObject, TerminalObject, NumberedObject, Process, Win32State}
-use Rattle.win32_spec.specs.Lookup.{is_alive, process_of, object_of, change_process, change_object, with_process, with_object}
-use Rattle.win32_spec.specs.WellFormed.{AreRisingProcesses, has_ends, only_number}
-use Rattle.win32_spec.specs.LookupLaws.{same_some, not_none, process_of-change_same, process_of-change_other, process_of-change_none, rising-change_process}
-use Rattle.win32_spec.specs.ObjectLaws.{object_of-change_same, object_of-change_other, object_of-change_none, rising-change_object}
+use Rattle.win32_spec.specs.Lookup.{process_of, object_of, change_process, change_object, with_process, with_object}
+use Rattle.win32_spec.specs.LookupLaws.{process_of-change_same, process_of-change_other, process_of-change_none, rising-change_process}
+use Rattle.win32_spec.specs.ObjectLaws.{object_of-change_same, object_of-change_other, rising-change_object}
 use Rattle.win32_spec.specs.Tame.{Both, ProcessBecomes, HoldsNext, ObjectBecomes, AreProcessesNext, AreObjectsNext, IsTame}
 use Rattle.win32_spec.specs.TameLaws.{both_same}
 
@@ -18,8 +17,17 @@ lengths-same own = record { dat = refl; heap = refl; stack = refl; cyg = refl; s
 -- a process that stays as it is
 pub process_same : (script : Script) (Written : Type 0) (p : Process) → ProcessBecomes script Written p p
 process_same script Written p = record {
-  ended = λ e. refl; number = refl; slot = refl; program = refl; life = refl; handles = refl; threads = λ ts h. h;
-  lengths = lengths-same p.own; bytes = λ n. refl; unplaced = λ e. refl; placed = λ h. h;
+  ended = λ e. refl;
+  number = refl;
+  slot = refl;
+  program = refl;
+  life = refl;
+  handles = refl;
+  threads = λ ts h. h;
+  lengths = lengths-same p.own;
+  bytes = λ n. refl;
+  unplaced = λ e. refl;
+  placed = λ h. h;
 }
 
 pub processes_same : (script : Script) (Written : ℕ → Type 0) (ps : List Process) → AreProcessesNext script Written ps ps
