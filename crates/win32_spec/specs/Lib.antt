@@ -30,3 +30,7 @@ pub mod SweptLaws
 pub mod Tame
 pub mod TameLaws
 pub mod TameSteps
+pub mod Effects
+pub mod CallEffects
+pub mod ThreadEffects
+pub mod MemoryEffects
