@@ -34,3 +34,5 @@ pub mod Effects
 pub mod CallEffects
 pub mod ThreadEffects
 pub mod MemoryEffects
+pub mod PlaceEffects
+pub mod ObjectEffects
