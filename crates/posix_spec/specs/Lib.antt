@@ -26,3 +26,7 @@ pub mod Run
 pub mod Waiting
 pub mod WellFormed
 pub mod RecordLaws
+pub mod EntryLaws
+pub mod CountLaws
+pub mod TestLaws
+pub mod SignalLaws
