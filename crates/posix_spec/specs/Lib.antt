@@ -30,3 +30,5 @@ pub mod EntryLaws
 pub mod CountLaws
 pub mod TestLaws
 pub mod SignalLaws
+pub mod KeepLaws
+pub mod ImageLaws
