@@ -1,5 +1,5 @@
 -- What follows for each step of a history, and for its events: clauses that can be read without the machines.
-use Rattle.std.specs.Prelude.{◌≡◌, ℕ, ◌≤◌, ◌↔◌, ◌⊎◌, ℤ, pos, negsuc, nat_eq, if◌then◌else◌, List, [], ◌∷◌, length, flat_map, Some, None}
+use Rattle.std.specs.Prelude.{◌≡◌, ℕ, ◌≤◌, ◌⊎◌, ℤ, pos, negsuc, false, nat_eq, if◌then◌else◌, List, [], ◌∷◌, length, flat_map, Some, None}
 use Rattle.w32_base.specs.declared.event.Answer.TheVariants.{Error}
 use Rattle.w32_base.specs.declared.event.Errno.TheVariants as errno
 use Rattle.w32_base.specs.declared.event.ForkCause.{ForkCause}
@@ -11,8 +11,9 @@ use Rattle.w32_base.specs.declared.instr.Instr.{Instr}
 use Rattle.script_spec.specs.declared.script.Script.{Script}
 use Rattle.vm_spec.specs.Image.{with_result}
 use Rattle.vm_spec.specs.Step.{CallInstruction}
-use Rattle.posix_spec.specs.State.{Record, PosixState, record_of}
-use Rattle.posix_spec.specs.Records.{children, members}
+use Rattle.posix_spec.specs.State.{Record, record_of}
+use Rattle.posix_spec.specs.Records.{children}
+use Rattle.posix_spec.specs.Groups.{has_member}
 use Rattle.posix_spec.specs.Conditions.{next_of}
 use Rattle.posix_spec.specs.Waits.{Wait, wait_of, matching}
 use Rattle.posix_spec.specs.ForkSteps.{most_children}
@@ -77,7 +78,7 @@ pub record RefusalsHaveCauses {A : Type 0} (script : Script) (step : HistoryStep
   pub kill : (p q signal : ℕ) → step.entry.event ≡ Some (event.Kill p (pos q) (pos signal) (Error errno.ESRCH))
       → record_of step.before.posix q ≡ None
   pub group : (p g signal : ℕ) → step.entry.event ≡ Some (event.GroupDone p (pos g) (pos signal) (Error errno.ESRCH))
-      → members step.before.posix g ≡ []
+      → has_member step.before.posix g ≡ false
   pub child : (p : ℕ) (caller : Record) (call : Instr) (wait : Wait) → step.entry.event ≡ Some (event.NoChild p)
       → record_of step.before.posix p ≡ Some caller → next_of script caller ≡ CallInstruction call
       → wait_of p caller call ≡ Some wait → matching step.before.posix wait ≡ []

@@ -1,5 +1,5 @@
 -- What shows that a death, its status and its reading are true.
-use Rattle.std.specs.Prelude.{◌≡◌, ◌≢◌, ℕ, ◌+◌, ◌-◌, ◌↔◌, ℤ, pos, Bool, true, false, Some}
+use Rattle.std.specs.Prelude.{◌≡◌, ◌≢◌, ℕ, ◌↔◌, ℤ, pos, Bool, true, false, Some}
 use Rattle.w32_base.specs.declared.call.Call.TheVariants as call
 use Rattle.w32_base.specs.declared.call.Reply.TheVariants as reply
 use Rattle.w32_base.specs.declared.event.Death.{Death}

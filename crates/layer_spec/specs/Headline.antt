@@ -30,8 +30,14 @@ pub record FollowsSchedule {A : Type 0} (script : Script) (past : List (Seen A))
 -- what a type of parts means, as in a history
 module _ {A : Type 0} (posted_of : A → Call) (goes : A → Own → Setup → Reply → A → Own → After → Type 0)
     (opening : A → Type 0) (slot_of thread_of : A → ℕ) where
+  -- The entries are those of a history up to this moment, under whatever directives.
+  pub record IsHistoryOf (script : Script) (entries : List Entry) (now : Moment A) : Type 0 where
+    pub past : List (Seen A)
+    pub history : IsHistory posted_of goes opening slot_of thread_of script past now
+    pub in_order : entries ≡ entries_of past
 
-  -- The entries are the journal of a run of the script under its schedule, which ended so: the entries of a history.
+  -- The entries are the journal of a run of the script, under its schedule, which ended so: those of a history that
+  -- follows it.
   pub record IsJournalOf (script : Script) (entries : List Entry) (end : End) : Type 0 where
     pub past : List (Seen A)
     pub now : Moment A

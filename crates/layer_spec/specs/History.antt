@@ -42,7 +42,6 @@ driven_at m given = record { win32 = m.win32; parts = m.parts; last = given }
 -- what a type of parts means: the calls that a part posts, what its turns may do, and which thread it serves
 module _ {A : Type 0} (posted_of : A → Call) (goes : A → Own → Setup → Reply → A → Own → After → Type 0)
     (opening : A → Type 0) (slot_of thread_of : A → ℕ) where
-
   -- One step. The entry is a step of the Win32 machine. The thread whose turn it is goes with its own part, whose event
   -- the entry's is; all other parts of live processes stay. The event is a step of the POSIX machine, and without an
   -- event its state stays. The entry keeps the discipline, and shows what its event needs. After it rows and images

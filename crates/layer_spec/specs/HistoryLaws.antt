@@ -21,18 +21,20 @@ use Rattle.posix_spec.specs.State.{PosixState}
 use Rattle.posix_spec.specs.Opening.{opening_of}
 use Rattle.posix_spec.specs.Run.{PosixStep, PosixRun}
 use Rattle.layer_spec.specs.Decodes.{Decodes}
-use Rattle.layer_spec.specs.Moment.{Moment, Seen, HistoryStep, entries_of, events_of}
+use Rattle.layer_spec.specs.Moment.{Moment, Seen, entries_of, events_of}
 use Rattle.layer_spec.specs.History.{IsHistory}
 use Rattle.layer_spec.specs.Headline.{IsScheduledTo, FollowsSchedule}
 
 -- one step more at the end of a run
 pub Win32Run-push : (script : Script) (s : Win32State) (es : List Entry) (mid : Win32State) (e : Entry)
-    (new : Win32State) → Win32Run script s es mid → DirectiveStep script mid e new → Win32Run script s (es ++ e ∷ []) new
+    (new : Win32State) → Win32Run script s es mid → DirectiveStep script mid e new
+    → Win32Run script s (es ++ e ∷ []) new
 Win32Run-push script s [] mid e new run step = (new, subst (λ m. DirectiveStep script m e new) run step, refl)
 Win32Run-push script s (x ∷ es) mid e new run step = (run.0, run.1, Win32Run-push script run.0 es mid e new run.2 step)
 
 pub PosixRun-push : (script : Script) (s : PosixState) (es : List Event) (mid : PosixState) (e : Event)
-    (new : PosixState) → PosixRun script s es mid → PosixStep script mid e new → PosixRun script s (es ++ e ∷ []) new
+    (new : PosixState) → PosixRun script s es mid → PosixStep script mid e new
+    → PosixRun script s (es ++ e ∷ []) new
 PosixRun-push script s [] mid e new run step = (new, subst (λ m. PosixStep script m e new) run step, refl)
 PosixRun-push script s (x ∷ es) mid e new run step = (run.0, run.1, PosixRun-push script run.0 es mid e new run.2 step)
 
@@ -51,9 +53,9 @@ pub ScheduledRun-push : (script : Script) (s : Win32State) (at : Position) (es :
     → ScheduledRun script s at (es ++ e ∷ []) new next
 ScheduledRun-push script s at [] mid from e new next run gives step =
     let here : GivesNext s from from.lines e.directive next =
-        subst (λ m. GivesNext m from from.lines e.directive next) run.0 gives in
+    subst (λ m. GivesNext m from from.lines e.directive next) run.0 gives in
     let there : GivesNext s at at.lines e.directive next =
-        subst (λ f. GivesNext s f f.lines e.directive next) run.1 here in
+    subst (λ f. GivesNext s f f.lines e.directive next) run.1 here in
     (new, next, there, subst (λ m. DirectiveStep script m e new) run.0 step, (refl, refl))
 ScheduledRun-push script s at (x ∷ es) mid from e new next run gives step =
     (run.0, run.1, run.2, run.3, ScheduledRun-push script run.0 run.1 es mid from e new next run.4 gives step)
@@ -66,7 +68,6 @@ length-entries_of (x ∷ past) =
 
 module _ {A : Type 0} (posted_of : A → Call) (goes : A → Own → Setup → Reply → A → Own → After → Type 0)
     (opening : A → Type 0) (slot_of thread_of : A → ℕ) where
-
   -- the opening state of a history, and what happened in the Win32 machine since
   pub record IsWin32RunTo (script : Script) (past : List (Seen A)) (now : Moment A) : Type 0 where
     pub first : Win32State
@@ -110,7 +111,7 @@ module _ {A : Type 0} (posted_of : A → Call) (goes : A → Own → Setup → R
       record { first = now.win32; opens = h.driven.opens; run = (refl, scheduled) }
   history_is_scheduled script (x ∷ past) now at h scheduled =
       let r : IsScheduledRunTo script past x.before scheduled.0 =
-          history_is_scheduled script past x.before scheduled.0 h.0 scheduled.1 in
+      history_is_scheduled script past x.before scheduled.0 h.0 scheduled.1 in
       record {
         first = r.first;
         opens = r.opens;

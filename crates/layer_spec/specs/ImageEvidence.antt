@@ -8,7 +8,7 @@ use Rattle.win32_spec.specs.State.{Win32State}
 use Rattle.win32_spec.specs.Lookup.{memory_by}
 use Rattle.win32_spec.specs.Regions.{region_of}
 use Rattle.layer_spec.specs.HeapReads.{base_in}
-use Rattle.layer_spec.specs.Moment.{Seen, SomeSeen, HistoryStep, seen_with}
+use Rattle.layer_spec.specs.Moment.{SomeSeen, HistoryStep, seen_with}
 use Rattle.layer_spec.specs.Owners.{call_up_to}
 use Rattle.layer_spec.specs.Turns.{image_named}
 use Rattle.layer_spec.specs.Deeds.{MakesProcess, ClaimsRow, PlacesModule, WritesPlace, HasMade}

@@ -1,6 +1,6 @@
 -- What shows the cause of a refusal that no process's own state decides: EAGAIN of fork and exec, and ENOENT of exec
 -- (POSIX.1-2017, XSH fork, exec).
-use Rattle.std.specs.Prelude.{◌≡◌, ◌≢◌, ℕ, ◌≤◌, ◌<◌, ℤ, pos, true, false, List, Some, slice_get}
+use Rattle.std.specs.Prelude.{◌≡◌, ◌≢◌, ℕ, ◌≤◌, ℤ, pos, true, false, List, Some, slice_get}
 use Rattle.w32_base.specs.Names.{is_among}
 use Rattle.w32_base.specs.Setup.{program_names}
 use Rattle.w32_base.specs.declared.event.ForkCause.{ForkCause}

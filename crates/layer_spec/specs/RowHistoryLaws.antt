@@ -1,5 +1,5 @@
 -- The row history tells each row's main word.
-use Rattle.std.specs.Prelude.{◌≡◌, ◌≢◌, ◌⊎◌, ℕ, ◌≤◌, true, false, nat_eq, if◌then◌else◌, List, [], ◌∷◌, ◌++◌, Option, Some, None}
+use Rattle.std.specs.Prelude.{◌≡◌, ◌≢◌, ◌⊎◌, ℕ, ◌≤◌, true, false, nat_eq, List, [], ◌∷◌, ◌++◌, Option, Some, None}
 use Rattle.std.proofs.Common.{refl, sym, ap, ◌∙◌, arith, inl, inr}
 use Rattle.std.proofs.lemmas.Bool.Decides.{eqb_tells}
 use Rattle.script_spec.specs.declared.script.Script.{Script}
@@ -42,8 +42,8 @@ pub row_word_is_main_word : {A : Type 0} → (script : Script) (past : List (See
 row_word_is_main_word script [] now items row low high h = rw h refl
 row_word_is_main_word script (x ∷ past) now items row low high h =
     let before : main_at x.before.win32 row ≡ row_word h.0 row (main_at (first_moment past x.before).win32 row) =
-        row_word_is_main_word script past x.before h.0 row low high h.4 in
+    row_word_is_main_word script past x.before h.0 row low high h.4 in
     let step : main_at now.win32 row ≡ word_after h.1.change row (main_at x.before.win32 row) =
-        changed_main_word script x.before.win32 now.win32 h.1.change row low high h.3.change in
+    changed_main_word script x.before.win32 now.win32 h.1.change row low high h.3.change in
     rw h.2 (step ∙ (ap (word_after h.1.change row) before
-      ∙ sym (row_word-push h.0 h.1 row (main_at (first_moment past x.before).win32 row))))
+    ∙ sym (row_word-push h.0 h.1 row (main_at (first_moment past x.before).win32 row))))

@@ -1,5 +1,5 @@
 -- Whose turn an entry is, which process a row names, and which processes have ended.
-use Rattle.std.specs.Prelude.{ℕ, ◌-◌, Bool, false, ◌&&◌, not, nat_eq, nat_le, nat_lt, List, Option, Some, None}
+use Rattle.std.specs.Prelude.{ℕ, Bool, false, ◌&&◌, not, nat_eq, nat_le, nat_lt, List, Option, Some, None}
 use Rattle.std.specs.List.{list_any}
 use Rattle.w32_base.specs.declared.entry.Directive.{Directive}
 use Rattle.w32_base.specs.declared.entry.Directive.TheVariants as directive
