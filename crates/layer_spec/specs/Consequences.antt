@@ -18,7 +18,7 @@ use Rattle.posix_spec.specs.Conditions.{next_of}
 use Rattle.posix_spec.specs.Waits.{Wait, wait_of, matching}
 use Rattle.posix_spec.specs.ForkSteps.{most_children}
 use Rattle.layer_spec.specs.Moment.{Moment, Seen, HistoryStep}
-use Rattle.layer_spec.specs.RefusalEvidence.{ForkHasCause, ExecHasCause}
+use Rattle.layer_spec.specs.RefusalEvidence.{ForkRefusalHasCause, ExecRefusalHasCause}
 
 -- each step of a history is such
 abbrev pub EachStep : {A : Type 0} → (HistoryStep A → Type 0) → List (Seen A) → Moment A → Type 0
@@ -72,9 +72,9 @@ pub record RefusalsHaveCauses {A : Type 0} (script : Script) (step : HistoryStep
   pub children : (p : ℕ) → step.entry.event ≡ Some (event.ForkFail p fork_cause.Children)
       → length (children step.before.posix p) ≡ most_children
   pub fork : (p : ℕ) (cause : ForkCause) → step.entry.event ≡ Some (event.ForkFail p cause)
-      → ForkHasCause script step p cause
+      → ForkRefusalHasCause script step p cause
   pub exec : (p : ℕ) (cause : ExecCause) → step.entry.event ≡ Some (event.ExecFail p cause)
-      → ExecHasCause script step p cause
+      → ExecRefusalHasCause script step p cause
   pub kill : (p q signal : ℕ) → step.entry.event ≡ Some (event.Kill p (pos q) (pos signal) (Error errno.ESRCH))
       → record_of step.before.posix q ≡ None
   pub group : (p g signal : ℕ) → step.entry.event ≡ Some (event.GroupDone p (pos g) (pos signal) (Error errno.ESRCH))

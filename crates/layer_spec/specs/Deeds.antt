@@ -1,5 +1,5 @@
 -- What entries of a call did, by their calls and replies: making a process, claiming a row, placing a module, writing
--- memory, asking for a code.
+-- memory.
 use Rattle.std.specs.Prelude.{◌≡◌, ℕ, ◌+◌, ◌<◌, ◌≤◌, true, List, Some}
 use Rattle.w32_base.specs.declared.call.Call.TheVariants as call
 use Rattle.w32_base.specs.declared.call.Region.{Region}

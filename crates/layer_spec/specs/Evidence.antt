@@ -6,8 +6,8 @@ use Rattle.w32_base.specs.declared.entry.Directive.TheVariants as directive
 use Rattle.script_spec.specs.declared.script.Script.{Script}
 use Rattle.layer_spec.specs.Moment.{HistoryStep}
 use Rattle.layer_spec.specs.Turns.{is_thread_turn, image_named}
-use Rattle.layer_spec.specs.ImageEvidence.{IsForked, IsExecuted}
-use Rattle.layer_spec.specs.RefusalEvidence.{ForkHasCause, ExecHasCause}
+use Rattle.layer_spec.specs.ImageEvidence.{ChildImageIsMade, NextImageIsMade}
+use Rattle.layer_spec.specs.RefusalEvidence.{ForkRefusalHasCause, ExecRefusalHasCause}
 use Rattle.layer_spec.specs.DeathEvidence.{DeathIsTrue, HostReadsStatus, ReapedHasEnded}
 
 -- where an event may stand: in a turn of the main thread of a process, of its main thread or its signal thread, of the
@@ -38,10 +38,12 @@ StandsInPlace step AnyThread = Unit {0}
 abbrev pub ShowsEvent : {A : Type 0} → Script → HistoryStep A → Event → Type 0
 ShowsEvent script step (event.Run p n) = StandsInPlace step (MainThread p)
 ShowsEvent script step (event.Get p f v) = StandsInPlace step (MainThread p)
-ShowsEvent script step (event.Fork p c) = StandsInPlace step (MainThread p) × IsForked script step p c
-ShowsEvent script step (event.ForkFail p cause) = StandsInPlace step (MainThread p) × ForkHasCause script step p cause
-ShowsEvent script step (event.Exec p name) = StandsInPlace step (MainThread p) × IsExecuted script step p name
-ShowsEvent script step (event.ExecFail p cause) = StandsInPlace step (MainThread p) × ExecHasCause script step p cause
+ShowsEvent script step (event.Fork p c) = StandsInPlace step (MainThread p) × ChildImageIsMade script step p c
+ShowsEvent script step (event.ForkFail p cause) =
+    StandsInPlace step (MainThread p) × ForkRefusalHasCause script step p cause
+ShowsEvent script step (event.Exec p name) = StandsInPlace step (MainThread p) × NextImageIsMade script step p name
+ShowsEvent script step (event.ExecFail p cause) =
+    StandsInPlace step (MainThread p) × ExecRefusalHasCause script step p cause
 ShowsEvent script step (event.Kill p q signal answer) = StandsInPlace step (MainThread p)
 ShowsEvent script step (event.Member p q signal) = StandsInPlace step (Acting p)
 ShowsEvent script step (event.GroupDone p g signal answer) = StandsInPlace step (Acting p)

@@ -31,7 +31,7 @@ ArePlacedAlike step p w m =
 -- After a fork the child's row names a process that the parent made in this call. The child's number is that of the row
 -- that the parent claimed in this call. The process has placed each module of the script where the parent has it. Each
 -- place of its data, heap, stack and cygheap was written by the parent in this call.
-pub record IsForked {A : Type 0} (script : Script) (step : HistoryStep A) (p : ℕ) (c : ℤ) : Type 0 where
+pub record ChildImageIsMade {A : Type 0} (script : Script) (step : HistoryStep A) (p : ℕ) (c : ℤ) : Type 0 where
   pub child : ℕ
   pub number : c ≡ pos child
   pub made : HasMade p (image_named step.after.win32 child) (call_up_to step p)
@@ -45,7 +45,7 @@ pub record IsForked {A : Type 0} (script : Script) (step : HistoryStep A) (p : �
   pub cygheap : IsWritten step p (image_named step.after.win32 child) Cyg
 
 -- After an exec p's row names a process that p made in this call, of the program with this name.
-pub record IsExecuted {A : Type 0} (script : Script) (step : HistoryStep A) (p : ℕ) (name : List ℕ) : Type 0 where
+pub record NextImageIsMade {A : Type 0} (script : Script) (step : HistoryStep A) (p : ℕ) (name : List ℕ) : Type 0 where
   pub place : ℕ
   pub program : Program
   pub known : slice_get script.setup.programs place ≡ Some program

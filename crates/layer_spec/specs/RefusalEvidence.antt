@@ -57,15 +57,16 @@ pub record HasNoProgram {A : Type 0} (script : Script) (step : HistoryStep A) (p
   pub absent : is_among name (program_names script.setup.programs) ≡ false
 
 -- a fork is refused for its cause; whether there are too many children is the POSIX machine's to say
-abbrev pub ForkHasCause : {A : Type 0} → Script → HistoryStep A → ℕ → ForkCause → Type 0
-ForkHasCause script step p fork_cause.Children = Unit {0}
-ForkHasCause script step p fork_cause.Rows = AreRowsClaimed script step p
-ForkHasCause script step p fork_cause.Slot = SomeSeen (FindsNoSlot p) (call_up_to step p)
-ForkHasCause script step p (fork_cause.Placed name found wanted) = IsPlacedElsewhere script step p name found wanted
-ForkHasCause script step p (fork_cause.Ended w) = IsEndedOutside step p w
+abbrev pub ForkRefusalHasCause : {A : Type 0} → Script → HistoryStep A → ℕ → ForkCause → Type 0
+ForkRefusalHasCause script step p fork_cause.Children = Unit {0}
+ForkRefusalHasCause script step p fork_cause.Rows = AreRowsClaimed script step p
+ForkRefusalHasCause script step p fork_cause.Slot = SomeSeen (FindsNoSlot p) (call_up_to step p)
+ForkRefusalHasCause script step p (fork_cause.Placed name found wanted) =
+    IsPlacedElsewhere script step p name found wanted
+ForkRefusalHasCause script step p (fork_cause.Ended w) = IsEndedOutside step p w
 
 -- and so is an exec
-abbrev pub ExecHasCause : {A : Type 0} → Script → HistoryStep A → ℕ → ExecCause → Type 0
-ExecHasCause script step p exec_cause.NoEntry = HasNoProgram script step p
-ExecHasCause script step p exec_cause.Slot = SomeSeen (FindsNoSlot p) (call_up_to step p)
-ExecHasCause script step p (exec_cause.Ended w) = IsEndedOutside step p w
+abbrev pub ExecRefusalHasCause : {A : Type 0} → Script → HistoryStep A → ℕ → ExecCause → Type 0
+ExecRefusalHasCause script step p exec_cause.NoEntry = HasNoProgram script step p
+ExecRefusalHasCause script step p exec_cause.Slot = SomeSeen (FindsNoSlot p) (call_up_to step p)
+ExecRefusalHasCause script step p (exec_cause.Ended w) = IsEndedOutside step p w
