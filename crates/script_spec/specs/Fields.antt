@@ -9,19 +9,19 @@ use Rattle.script_spec.specs.Faults.{fault_if}
 
 pub data Field : Type 0 where
   -- this very word
-  Fixed : List ℕ → Field
+  FixedWord : List ℕ → Field
   -- a register
-  Register : Field
+  RegisterWord : Field
   -- a register, or a number of 32 bits with or without a sign
-  Value : Field
+  ValueWord : Field
   -- the place of an instruction
-  Place : Field
+  PlaceWord : Field
   -- a number from the first to the second
-  Number : ℕ → ℕ → Field
+  NumberWord : ℕ → ℕ → Field
   -- the name of a module or a program
-  Name : Field
+  NameWord : Field
   -- two hexadecimal digits
-  KeyByte : Field
+  KeyWord : Field
 
 abbrev pub is_empty : List ℕ → Bool
 is_empty [] = true
@@ -46,10 +46,10 @@ name_fault w = if is_empty w then Some Words else fault_if (not (is_name w)) Bad
 
 -- a place has no bound of its own but that of 64 bits
 abbrev pub field_fault : Field → List ℕ → Option Kind
-field_fault (Fixed text) w = fault_if (not (is_same text w)) Words
-field_fault Register w = fault_if (not (is_register w)) Words
-field_fault Value w = value_fault w
-field_fault Place w = number_fault 0 18446744073709551615 w
-field_fault (Number low high) w = number_fault low high w
-field_fault Name w = name_fault w
-field_fault KeyByte w = fault_if (not (is_key_byte w)) Words
+field_fault (FixedWord text) w = fault_if (not (is_same text w)) Words
+field_fault RegisterWord w = fault_if (not (is_register w)) Words
+field_fault ValueWord w = value_fault w
+field_fault PlaceWord w = number_fault 0 18446744073709551615 w
+field_fault (NumberWord low high) w = number_fault low high w
+field_fault NameWord w = name_fault w
+field_fault KeyWord w = fault_if (not (is_key_byte w)) Words

@@ -61,14 +61,21 @@ word_text first.Schedule = codes "schedule"
 word_text (first.Instr w) = instr_word_text w
 word_text (first.Directive w) = directive_word_text w
 
--- the words of instructions, of the schedule's lines, and the others
-abbrev pub instr_words_known : List InstrWord
-instr_words_known =
-    word.Set ∷ word.Add ∷ word.Load ∷ word.Store ∷ word.Push ∷ word.Pop ∷ word.Jump ∷ word.JumpZero ∷
-    word.JumpNegative ∷ word.GetPid ∷ word.GetPpid ∷ word.GetPgid ∷ word.GetSid ∷ word.Fork ∷ word.Exec ∷
-    word.Exit ∷ word.Wait ∷ word.Kill ∷ word.Action ∷ word.Mask ∷ word.Suspend ∷ word.Pause ∷ word.Return ∷
-    word.SetPgid ∷ word.SetSid ∷ word.TcSet ∷ word.TcGet ∷ word.TtyFlags ∷ word.Read ∷ word.Write ∷ []
+-- the words of instructions: of local ones, of calls on processes, on signals, and on groups and the terminal
+abbrev pub local_words_known : List InstrWord
+local_words_known = word.Set ∷ word.Add ∷ word.Load ∷ word.Store ∷ word.Push ∷ word.Pop ∷ word.Jump
+    ∷ word.JumpZero ∷ word.JumpNegative ∷ []
 
+abbrev pub process_words_known : List InstrWord
+process_words_known = word.GetPid ∷ word.GetPpid ∷ word.GetPgid ∷ word.GetSid ∷ word.Fork ∷ word.Exec ∷ word.Exit ∷ word.Wait ∷ []
+
+abbrev pub signal_words_known : List InstrWord
+signal_words_known = word.Kill ∷ word.Action ∷ word.Mask ∷ word.Suspend ∷ word.Pause ∷ word.Return ∷ []
+
+abbrev pub group_words_known : List InstrWord
+group_words_known = word.SetPgid ∷ word.SetSid ∷ word.TcSet ∷ word.TcGet ∷ word.TtyFlags ∷ word.Read ∷ word.Write ∷ []
+
+-- the words of the schedule's lines, and the others
 abbrev pub directive_words_known : List DirectiveWord
 directive_words_known = directive.Turn ∷ directive.End ∷ directive.Key ∷ directive.Steps ∷ directive.Settle ∷ []
 
@@ -86,16 +93,31 @@ abbrev pub either : {A : Type 0} → Option A → Option A → Option A
 either None other = other
 either (Some x) other = Some x
 
+abbrev pub local_word : List ℕ → Option InstrWord
+local_word text = with_text instr_word_text local_words_known text
+
+abbrev pub process_word : List ℕ → Option InstrWord
+process_word text = with_text instr_word_text process_words_known text
+
+abbrev pub signal_word : List ℕ → Option InstrWord
+signal_word text = with_text instr_word_text signal_words_known text
+
+abbrev pub group_word : List ℕ → Option InstrWord
+group_word text = with_text instr_word_text group_words_known text
+
 abbrev pub instr_word : List ℕ → Option InstrWord
-instr_word text = with_text instr_word_text instr_words_known text
+instr_word text = either (local_word text) (either (process_word text) (either (signal_word text) (group_word text)))
 
 abbrev pub directive_word : List ℕ → Option DirectiveWord
 directive_word text = with_text directive_word_text directive_words_known text
 
+abbrev pub other_word : List ℕ → Option FirstWord
+other_word text = with_text word_text other_words_known text
+
 -- the first word that has this text
 abbrev pub first_word : List ℕ → Option FirstWord
 first_word text = either (option_map first.Instr (instr_word text)) (either (option_map first.Directive (directive_word text))
-    (with_text word_text other_words_known text))
+    (other_word text))
 
 -- the sort of line that begins with it
 abbrev pub sort_of : FirstWord → Sort

@@ -10,61 +10,61 @@ use Rattle.script_spec.specs.declared.fault.DirectiveWord.{DirectiveWord}
 use Rattle.script_spec.specs.declared.fault.DirectiveWord.TheVariants as directive
 use Rattle.script_spec.specs.Numbers.{value_of}
 use Rattle.script_spec.specs.Faults.{least}
-use Rattle.script_spec.specs.Fields.{Field, Fixed, Register, Value, Place, Number, Name, KeyByte, field_fault}
+use Rattle.script_spec.specs.Fields.{Field, FixedWord, RegisterWord, ValueWord, PlaceWord, NumberWord, NameWord, KeyWord, field_fault}
 
 -- the forms of an instruction
 abbrev pub instr_forms : InstrWord → List (List Field)
-instr_forms word.Set = (Register ∷ Value ∷ []) ∷ []
-instr_forms word.Add = (Register ∷ Value ∷ []) ∷ []
-instr_forms word.Load = (Register ∷ Value ∷ []) ∷ []
-instr_forms word.Store = (Value ∷ Value ∷ []) ∷ []
-instr_forms word.Push = (Value ∷ []) ∷ []
-instr_forms word.Pop = (Register ∷ []) ∷ []
-instr_forms word.Jump = (Place ∷ []) ∷ []
-instr_forms word.JumpZero = (Value ∷ Place ∷ []) ∷ []
-instr_forms word.JumpNegative = (Value ∷ Place ∷ []) ∷ []
+instr_forms word.Set = (RegisterWord ∷ ValueWord ∷ []) ∷ []
+instr_forms word.Add = (RegisterWord ∷ ValueWord ∷ []) ∷ []
+instr_forms word.Load = (RegisterWord ∷ ValueWord ∷ []) ∷ []
+instr_forms word.Store = (ValueWord ∷ ValueWord ∷ []) ∷ []
+instr_forms word.Push = (ValueWord ∷ []) ∷ []
+instr_forms word.Pop = (RegisterWord ∷ []) ∷ []
+instr_forms word.Jump = (PlaceWord ∷ []) ∷ []
+instr_forms word.JumpZero = (ValueWord ∷ PlaceWord ∷ []) ∷ []
+instr_forms word.JumpNegative = (ValueWord ∷ PlaceWord ∷ []) ∷ []
 instr_forms word.GetPid = [] ∷ []
 instr_forms word.GetPpid = [] ∷ []
 instr_forms word.GetPgid = [] ∷ []
 instr_forms word.GetSid = [] ∷ []
 instr_forms word.Fork = [] ∷ []
-instr_forms word.Exec = (Name ∷ []) ∷ []
-instr_forms word.Exit = (Value ∷ []) ∷ []
-instr_forms word.Wait = (Value ∷ Value ∷ []) ∷ []
-instr_forms word.Kill = (Value ∷ Value ∷ []) ∷ []
-instr_forms word.Action = (Value ∷ Fixed (codes "default") ∷ []) ∷ (Value ∷ Fixed (codes "ignore") ∷ [])
-    ∷ (Value ∷ Fixed (codes "handler") ∷ Place ∷ [])
-    ∷ (Value ∷ Fixed (codes "handler") ∷ Place ∷ Fixed (codes "restart") ∷ []) ∷ []
-instr_forms word.Mask = (Fixed (codes "block") ∷ Value ∷ []) ∷ (Fixed (codes "unblock") ∷ Value ∷ [])
-    ∷ (Fixed (codes "set") ∷ Value ∷ []) ∷ []
-instr_forms word.Suspend = (Value ∷ []) ∷ []
+instr_forms word.Exec = (NameWord ∷ []) ∷ []
+instr_forms word.Exit = (ValueWord ∷ []) ∷ []
+instr_forms word.Wait = (ValueWord ∷ ValueWord ∷ []) ∷ []
+instr_forms word.Kill = (ValueWord ∷ ValueWord ∷ []) ∷ []
+instr_forms word.Action = (ValueWord ∷ FixedWord (codes "default") ∷ []) ∷ (ValueWord ∷ FixedWord (codes "ignore") ∷ [])
+    ∷ (ValueWord ∷ FixedWord (codes "handler") ∷ PlaceWord ∷ [])
+    ∷ (ValueWord ∷ FixedWord (codes "handler") ∷ PlaceWord ∷ FixedWord (codes "restart") ∷ []) ∷ []
+instr_forms word.Mask = (FixedWord (codes "block") ∷ ValueWord ∷ []) ∷ (FixedWord (codes "unblock") ∷ ValueWord ∷ [])
+    ∷ (FixedWord (codes "set") ∷ ValueWord ∷ []) ∷ []
+instr_forms word.Suspend = (ValueWord ∷ []) ∷ []
 instr_forms word.Pause = [] ∷ []
 instr_forms word.Return = [] ∷ []
-instr_forms word.SetPgid = (Value ∷ Value ∷ []) ∷ []
+instr_forms word.SetPgid = (ValueWord ∷ ValueWord ∷ []) ∷ []
 instr_forms word.SetSid = [] ∷ []
-instr_forms word.TcSet = (Value ∷ []) ∷ []
+instr_forms word.TcSet = (ValueWord ∷ []) ∷ []
 instr_forms word.TcGet = [] ∷ []
-instr_forms word.TtyFlags = (Value ∷ []) ∷ []
-instr_forms word.Read = (Value ∷ Value ∷ []) ∷ []
-instr_forms word.Write = (Value ∷ Value ∷ []) ∷ []
+instr_forms word.TtyFlags = (ValueWord ∷ []) ∷ []
+instr_forms word.Read = (ValueWord ∷ ValueWord ∷ []) ∷ []
+instr_forms word.Write = (ValueWord ∷ ValueWord ∷ []) ∷ []
 
 -- the forms of a schedule's line, in a script of so many slots
 abbrev pub directive_forms : ℕ → DirectiveWord → List (List Field)
-directive_forms slots directive.Turn = (Number 0 slots ∷ Number 0 2 ∷ []) ∷ []
-directive_forms slots directive.End = (Number 1 slots ∷ []) ∷ []
-directive_forms slots directive.Key = (KeyByte ∷ []) ∷ []
-directive_forms slots directive.Steps = (Number 1 500000 ∷ []) ∷ []
+directive_forms slots directive.Turn = (NumberWord 0 slots ∷ NumberWord 0 2 ∷ []) ∷ []
+directive_forms slots directive.End = (NumberWord 1 slots ∷ []) ∷ []
+directive_forms slots directive.Key = (KeyWord ∷ []) ∷ []
+directive_forms slots directive.Steps = (NumberWord 1 500000 ∷ []) ∷ []
 directive_forms slots directive.Settle = [] ∷ []
 
 -- the forms of the line with a first word, in a script of so many slots
 abbrev pub forms : ℕ → FirstWord → List (List Field)
-forms slots first.CygScript = (Fixed (codes "1") ∷ []) ∷ []
-forms slots first.Slots = (Number 1 64 ∷ []) ∷ []
-forms slots first.Rows = (Number 1 4000 ∷ []) ∷ []
-forms slots first.Budget = (Number 1 500000 ∷ []) ∷ []
-forms slots first.Module = (Name ∷ Number 0 1023 ∷ Number 1 8 ∷ []) ∷ []
-forms slots first.Occupy = (Number 1 500000 ∷ Number 0 1023 ∷ []) ∷ []
-forms slots first.Program = (Name ∷ Fixed (codes "heap") ∷ Number 0 32768 ∷ Fixed (codes "stack") ∷ Number 64 32768 ∷ []) ∷ []
+forms slots first.CygScript = (FixedWord (codes "1") ∷ []) ∷ []
+forms slots first.Slots = (NumberWord 1 64 ∷ []) ∷ []
+forms slots first.Rows = (NumberWord 1 4000 ∷ []) ∷ []
+forms slots first.Budget = (NumberWord 1 500000 ∷ []) ∷ []
+forms slots first.Module = (NameWord ∷ NumberWord 0 1023 ∷ NumberWord 1 8 ∷ []) ∷ []
+forms slots first.Occupy = (NumberWord 1 500000 ∷ NumberWord 0 1023 ∷ []) ∷ []
+forms slots first.Program = (NameWord ∷ FixedWord (codes "heap") ∷ NumberWord 0 32768 ∷ FixedWord (codes "stack") ∷ NumberWord 64 32768 ∷ []) ∷ []
 forms slots (first.Instr w) = instr_forms w
 forms slots first.Schedule = [] ∷ []
 forms slots (first.Directive w) = directive_forms slots w
@@ -98,7 +98,7 @@ forms_fault fs ws = as_form ws (kept_form fs ws)
 abbrev pub place_in : List Field → List (List ℕ) → Option ℕ
 place_in [] ws = None
 place_in (f ∷ fs) [] = None
-place_in (Place ∷ fs) (w ∷ ws) = Some (value_of w)
+place_in (PlaceWord ∷ fs) (w ∷ ws) = Some (value_of w)
 place_in (f ∷ fs) (w ∷ ws) = place_in fs ws
 
 abbrev pub place_as : List (List ℕ) → Option (List Field) → Option ℕ

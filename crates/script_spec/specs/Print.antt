@@ -47,19 +47,27 @@ schedule_words (line.Given d) = directive_words d
 schedule_words (line.Steps turns) = codes "steps" ∷ decimal turns ∷ []
 schedule_words line.Settle = codes "settle" ∷ []
 
+-- the lines of programs
+abbrev pub programs_lines : List Program → List (List (List ℕ))
+programs_lines ps = flat_map program_lines ps
+
 -- the lines of a script, as their words
 abbrev pub script_words : Script → List (List (List ℕ))
-script_words s = limits_words s.setup.limits ++ map module_words s.setup.modules ++ map occupied_words s.occupied
-    ++ flat_map program_lines s.setup.programs ++ (codes "schedule" ∷ []) ∷ map schedule_words s.directives
+script_words s = limits_words s.setup.limits ++ (map module_words s.setup.modules ++ (map occupied_words s.occupied
+    ++ (programs_lines s.setup.programs ++ (codes "schedule" ∷ []) ∷ map schedule_words s.directives)))
 
 -- the lines of a script
 abbrev pub script_lines : Script → List (List ℕ)
 script_lines s = map spaced (script_words s)
 
--- lines as a text: LF ends each of them
-abbrev pub text_of : List (List ℕ) → List ℕ
-text_of lines = flat_map (λ (bytes : List ℕ). bytes ++ 10 ∷ []) lines
+-- a line of words as a text: LF ends it
+abbrev pub line_text : List (List ℕ) → List ℕ
+line_text ws = spaced ws ++ 10 ∷ []
+
+-- lines of words as a text
+abbrev pub words_text : List (List (List ℕ)) → List ℕ
+words_text lines = flat_map line_text lines
 
 -- the canonical print of a script
 abbrev pub print_of : Script → List ℕ
-print_of s = text_of (script_lines s)
+print_of s = words_text (script_words s)
