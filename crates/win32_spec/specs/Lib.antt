@@ -36,3 +36,7 @@ pub mod ThreadEffects
 pub mod MemoryEffects
 pub mod PlaceEffects
 pub mod ObjectEffects
+pub mod HandleEffects
+pub mod TerminalEffects
+pub mod MadeLaws
+pub mod EffectLaws

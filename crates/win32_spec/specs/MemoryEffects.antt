@@ -34,7 +34,7 @@ pub length-written : (bytes : List ℕ) (place : ℕ) (new : List ℕ) → (leng
 length-written bytes place new h =
     simp (length-append, length-take, length-drop) (elim h [ | inl e ↦ omega arith | inr l ↦ omega arith ])
 
-inside : (size place count : ℕ) → is_inside size place count ≡ true → (count ≡ 0) ⊎ (place + count ≤ size)
+pub inside : (size place count : ℕ) → is_inside size place count ≡ true → (count ≡ 0) ⊎ (place + count ≤ size)
 inside size place count e =
     elim (or_true (nat_eq count 0) (nat_le (place + count) size) e) [
       | inl t ↦ inl (eqb-true count 0 t)
