@@ -40,3 +40,4 @@ pub mod HandleEffects
 pub mod TerminalEffects
 pub mod MadeLaws
 pub mod EffectLaws
+pub mod KeepLaws
