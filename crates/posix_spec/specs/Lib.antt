@@ -32,3 +32,4 @@ pub mod TestLaws
 pub mod SignalLaws
 pub mod KeepLaws
 pub mod ImageLaws
+pub mod LocalLaws
