@@ -33,3 +33,5 @@ pub mod SignalLaws
 pub mod KeepLaws
 pub mod ImageLaws
 pub mod LocalLaws
+pub mod CallLaws
+pub mod AnswerLaws
