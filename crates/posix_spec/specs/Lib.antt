@@ -35,3 +35,5 @@ pub mod ImageLaws
 pub mod LocalLaws
 pub mod CallLaws
 pub mod AnswerLaws
+pub mod SentLaws
+pub mod OwnLaws
