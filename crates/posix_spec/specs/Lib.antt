@@ -37,3 +37,4 @@ pub mod CallLaws
 pub mod AnswerLaws
 pub mod SentLaws
 pub mod OwnLaws
+pub mod SignalCallLaws

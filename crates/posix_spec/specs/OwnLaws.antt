@@ -1,5 +1,5 @@
 -- The calls that tell a process of itself, that fail, or that find nothing keep a state well formed.
-use Rattle.std.specs.Prelude.{◌≡◌, ℕ, ◌<◌, ℤ, pos, Bool, true, false, nat_lt, ◌&&◌, if◌then◌else◌, Option, Some, None, is_some}
+use Rattle.std.specs.Prelude.{◌≡◌, ℕ, ◌<◌, ℤ, pos, Bool, true, false, nat_lt, nat_eq, length, ◌&&◌, if◌then◌else◌, Option, Some, None, is_some}
 use Rattle.std.proofs.Common.{refl, sym, ap, subst, ◌∙◌, arith, true≢false, ltb-true}
 use Rattle.w32_base.specs.declared.event.Errno.{Errno}
 use Rattle.w32_base.specs.declared.event.ForkCause.{ForkCause}
@@ -58,3 +58,31 @@ module _ (script : Script) (s new : PosixState) (p : ℕ) (w : IsWellFormed scri
   keeps-fork_fail cause e =
       after_call (IsWellFormed script) script s new p (fork_fail_step s p cause)
       (λ r i is c found. fork_failed cause r i (Acts-calling script s p w r i is c) found) e
+
+  exec_failed : (cause : ExecCause) (r : Record) (i : Instr) → Acts s p → exec_fail_step script s p cause r i ≡ Some new → IsWellFormed script new
+  exec_failed cause r (instr.Exec name) acts found =
+      after_if (IsWellFormed script) (is_exec_cause (is_some (program_named script name)) cause) (answered s p (exec_result cause)) new
+      (λ _. IsWellFormed-results script s p (exec_result cause) None w acts) found
+  exec_failed cause r _ acts found = after_none (IsWellFormed script) new found
+
+  pub keeps-exec_fail : (cause : ExecCause) → posix_step script s (event.ExecFail p cause) ≡ Some new → IsWellFormed script new
+  unfolding posix_step
+  keeps-exec_fail cause e =
+      after_call (IsWellFormed script) script s new p (exec_fail_step script s p cause)
+      (λ r i is c found. exec_failed cause r i (Acts-calling script s p w r i is c) found) e
+
+  pub keeps-nothing : posix_step script s (event.Nothing p) ≡ Some new → IsWellFormed script new
+  unfolding posix_step
+  keeps-nothing e =
+      after_call (IsWellFormed script) script s new p (nothing_step s p)
+      (λ r i is c found. after_value (IsWellFormed script) (wait_of p r i) (find_nothing s p r) new
+        (λ wait _ done. after_if (IsWellFormed script) (has_nohang wait && has_looked_at_all s r.call wait) (answered_both s p (pos 0) (pos 0)) new
+          (λ _. IsWellFormed-results script s p (pos 0) (Some (pos 0)) w (Acts-calling script s p w r i is c)) done) found) e
+
+  pub keeps-no_child : posix_step script s (event.NoChild p) ≡ Some new → IsWellFormed script new
+  unfolding posix_step
+  keeps-no_child e =
+      after_call (IsWellFormed script) script s new p (no_child_step s p)
+      (λ r i is c found. after_value (IsWellFormed script) (wait_of p r i) (find_no_child s p) new
+        (λ wait _ done. after_if (IsWellFormed script) (nat_eq (length (matching s wait)) 0) (answered s p (error_result errno.ECHILD)) new
+          (λ _. IsWellFormed-results script s p (error_result errno.ECHILD) None w (Acts-calling script s p w r i is c)) done) found) e
