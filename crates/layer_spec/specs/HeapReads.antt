@@ -43,8 +43,11 @@ base_in bytes m = half_at bytes (140 + 2 * m)
 abbrev pub child_count_in : List ℕ → ℕ
 child_count_in bytes = word_at bytes 156
 
+abbrev pub child_at : List ℕ → ℕ → HeapChild
+child_at bytes place = record { number = half_at bytes place; noted = nat_eq (half_at bytes (place + 2)) 1 }
+
 abbrev pub child_in : List ℕ → ℕ → HeapChild
-child_in bytes i = record { number = half_at bytes (160 + 4 * i); noted = nat_eq (half_at bytes (162 + 4 * i)) 1 }
+child_in bytes i = child_at bytes (160 + 4 * i)
 
 -- all fields
 abbrev pub heap_in : List ℕ → HeapFields
