@@ -41,3 +41,4 @@ pub mod TerminalEffects
 pub mod MadeLaws
 pub mod EffectLaws
 pub mod KeepLaws
+pub mod StepLaws

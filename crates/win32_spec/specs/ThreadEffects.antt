@@ -36,7 +36,7 @@ live_of-found (Some q) p e = by_test (is_alive q.life) refl e
     by_test false t f = absurd (cc)
 
 -- a process whose threads alone change
-threads_become : (script : Script) (Written : Type 0) (p : Process) (xs : List Thread) → is_alive p.life ≡ true
+pub threads_become : (script : Script) (Written : Type 0) (p : Process) (xs : List Thread) → is_alive p.life ≡ true
     → ((ts : List ℕ) → AreThreads ts p.threads → AreThreads ts xs) → ProcessBecomes script Written p (record p { threads = xs })
 threads_become script Written p xs alive keeps = record {
   ended = λ e. absurd (cc);
