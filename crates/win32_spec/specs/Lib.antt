@@ -42,3 +42,4 @@ pub mod MadeLaws
 pub mod EffectLaws
 pub mod KeepLaws
 pub mod StepLaws
+pub mod OpeningLaws

@@ -58,7 +58,7 @@ run_effect script s w t r new registers h live step =
         (subst (λ is. All (λ i. IsTrue (writes_register i)) is) (sym code) (registers k layer.program layer.listed)))
 
 -- one more module, behind the others
-base_in-behind : (placed : List PlacedModule) (k m base : ℕ) → base_in placed k ≡ None → m ≢ k → base_in (and_placed placed m base) k ≡ None
+pub base_in-behind : (placed : List PlacedModule) (k m base : ℕ) → base_in placed k ≡ None → m ≢ k → base_in (and_placed placed m base) k ≡ None
 base_in-behind [] k m base e d = let s = differs m k d in rw s refl
 base_in-behind (x ∷ xs) k m base e d =
     elim (cases_eq x.module_no k) [
