@@ -1,12 +1,14 @@
 -- What is known of a process that has an event of its own, and of one whose call has ended.
-use Rattle.std.specs.Prelude.{◌≡◌, ℕ, ◌<◌, Bool, true, false, ◌&&◌, not, if◌then◌else◌, Option, Some, None, is_some, IsTrue}
+use Rattle.std.specs.Prelude.{◌≡◌, ℕ, ◌<◌, Bool, true, false, ◌&&◌, not, nat_lt, if◌then◌else◌, List, length, slice_get, Option, Some, None, is_some, IsTrue}
 use Rattle.std.specs.Option.{unwrap_or}
-use Rattle.std.proofs.Common.{refl, sym, ap, subst, ◌∙◌, arith, true≢false}
+use Rattle.std.proofs.Common.{refl, sym, ap, subst, ◌∙◌, arith, true≢false, inl, inr}
+use Rattle.std.proofs.lemmas.Bool.{cases_Bool, or_parts}
 use Rattle.w32_base.specs.declared.instr.Instr.{Instr}
 use Rattle.w32_base.specs.declared.instr.Instr.TheVariants as instr
 use Rattle.script_spec.specs.declared.script.Script.{Script}
-use Rattle.vm_spec.specs.Image.{Image}
-use Rattle.vm_spec.specs.Step.{Upcoming, LocalInstruction, CallInstruction, ImageFault}
+use Rattle.vm_spec.specs.Image.{Image, place_of, in_use}
+use Rattle.vm_spec.specs.Faults.{instr_faults, faults_at, faults}
+use Rattle.vm_spec.specs.Step.{Upcoming, LocalInstruction, CallInstruction, ImageFault, is_local, upcoming_at, upcoming}
 use Rattle.posix_spec.specs.State.{Life, Running, Stopped, Zombie, Numbers, GroupCall, CallInProgress, NoCall, WaitCall, ForGroup, Record, PosixState, record_of}
 use Rattle.posix_spec.specs.Pending.{is_running, is_live}
 use Rattle.posix_spec.specs.Waits.{looked_at, death_to_report}
@@ -15,7 +17,7 @@ use Rattle.posix_spec.specs.Conditions.{next_of, call_of, is_group_call, waits_f
 use Rattle.posix_spec.specs.DeathSteps.{is_zombie}
 use Rattle.posix_spec.specs.SignalLaws.{first_of, second_of}
 use Rattle.posix_spec.specs.WellFormed.{HasNumbers, HasSignals, HasNoNotes, IsImage, HasCall, IsSuspended, IsWellFormedRecord, is_suspend_next}
-use Rattle.posix_spec.specs.KeepLaws.{IsSound, KeepsPlace, Keeps}
+use Rattle.posix_spec.specs.KeepLaws.{IsSound, sound_of, KeepsPlace, Keeps}
 
 -- ---- cases that differ
 
@@ -156,24 +158,54 @@ HasCall-none next used live due saved none = record {
 }
 
 -- the call of a process ends, which has this image then
+pub IsSound-ended : (script : Script) (used : Numbers) (p : ℕ) (r : Record) (image : Image) → IsSound script used p r →
+    IsActing r → IsImage script image → IsSound script used p (call_ended (record r { image = image }))
+IsSound-ended script used p r image w a h = record {
+  numbers = w.numbers;
+  lives = w.lives;
+  notes = λ dead. absurd (running_not_zombie r.life a.running dead);
+  signals = record {
+    pending_signals = w.signals.pending_signals;
+    lost_signals = omega arith;
+    is_mask = w.signals.is_mask;
+    saved_mask = w.signals.saved_mask;
+    action_count = w.signals.action_count;
+    kill_action = w.signals.kill_action;
+    stop_action = w.signals.stop_action;
+  };
+  runs = h;
+  calls = HasCall-none _ used _ _ r.saved a.unsaved;
+}
+
 pub Keeps-ended : (script : Script) (used : Numbers) (p : ℕ) (r : Record) (image : Image) → IsWellFormedRecord script used p r →
     IsActing r → IsImage script image → Keeps script used p r (call_ended (record r { image = image }))
 Keeps-ended script used p r image w a h = record {
-  sound = record {
-    numbers = w.numbers;
-    lives = w.lives;
-    notes = λ dead. absurd (running_not_zombie r.life a.running dead);
-    signals = record {
-      pending_signals = w.signals.pending_signals;
-      lost_signals = omega arith;
-      is_mask = w.signals.is_mask;
-      saved_mask = w.signals.saved_mask;
-      action_count = w.signals.action_count;
-      kill_action = w.signals.kill_action;
-      stop_action = w.signals.stop_action;
-    };
-    runs = h;
-    calls = HasCall-none _ used _ _ r.saved a.unsaved;
-  };
+  sound = IsSound-ended script used p r image (sound_of w) a h;
   place = record { parent = refl; group = refl; session = refl; death = refl };
 }
+
+-- ---- the next instruction is a call
+
+-- the call at the next place, which doesn't fault
+pub record IsNextCall (code : List Instr) (image : Image) (i : Instr) : Type 0 where
+  pub at : slice_get code (place_of image) ≡ Some i
+  pub carried_out : instr_faults i image ≡ false
+
+some_call : (o : Option Instr) (i : Instr) → upcoming_at o ≡ CallInstruction i → o ≡ Some i
+some_call None i e = absurd (none_some i (ap call_of e))
+some_call (Some j) i e =
+    elim (is_local j) as (λ b. (if b then LocalInstruction else CallInstruction j) ≡ CallInstruction i → Some j ≡ Some i) [
+      | true ↦ λ local. absurd (none_some i (ap call_of local))
+      | false ↦ λ call. ap call_of call
+    ] e
+
+pub next_call : (code : List Instr) (image : Image) (i : Instr) → upcoming code image ≡ CallInstruction i → IsNextCall code image i
+unfolding upcoming
+next_call code image i e =
+    elim (cases_Bool (faults code image)) [
+      | inl fault ↦ absurd (none_some i (ap call_of (sym (ap (λ b. if b then ImageFault else upcoming_at (slice_get code (place_of image))) fault) ∙ e)))
+      | inr fine ↦
+          let at = some_call (slice_get code (place_of image)) i (sym (ap (λ b. if b then ImageFault else upcoming_at (slice_get code (place_of image))) fine) ∙ e) in
+          let parts = or_parts (nat_lt (length image.stack) (in_use image)) (faults_at (slice_get code (place_of image)) image) fine in
+          record { at = at; carried_out = ap (λ o. faults_at o image) (sym at) ∙ parts.1 }
+    ]

@@ -38,3 +38,4 @@ pub mod AnswerLaws
 pub mod SentLaws
 pub mod OwnLaws
 pub mod SignalCallLaws
+pub mod ActionLaws
