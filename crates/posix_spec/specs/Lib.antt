@@ -39,3 +39,4 @@ pub mod SentLaws
 pub mod OwnLaws
 pub mod SignalCallLaws
 pub mod ActionLaws
+pub mod HandlerLaws
