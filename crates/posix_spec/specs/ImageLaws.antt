@@ -60,6 +60,12 @@ module _ (script : Script) where
       IsImage-register (with_register (moved_on image) 0 r0) 1 r1 (omega arith)
       (IsImage-register (moved_on image) 0 r0 (omega arith) (IsImage-moved_on image h))
 
+  pub in_use-with_result : (image : Image) (r0 : ℤ) → length image.dat ≡ 64 → in_use (with_result image r0 None) ≡ in_use image
+  in_use-with_result image r0 h =
+      let moved = length-with_word image.dat 32 (place_of image + 1) (omega (arith, h)) in
+      word_at-with_word_above (moved_on image).dat 0 (cast_unsigned w32 r0) 36 (omega (arith, h, moved)) (omega arith)
+      ∙ word_at-with_word_above image.dat 32 (place_of image + 1) 36 (omega (arith, h)) (omega arith)
+
   -- other bytes of the heap or of the stack, as many as before
   pub IsImage-heap : (image : Image) (heap : List ℕ) → length heap ≡ length image.heap → IsImage script image → IsImage script (record image { heap = heap })
   IsImage-heap image heap same h =

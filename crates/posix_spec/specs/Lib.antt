@@ -40,3 +40,4 @@ pub mod OwnLaws
 pub mod SignalCallLaws
 pub mod ActionLaws
 pub mod HandlerLaws
+pub mod ActLaws
