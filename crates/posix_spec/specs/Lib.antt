@@ -41,3 +41,4 @@ pub mod SignalCallLaws
 pub mod ActionLaws
 pub mod HandlerLaws
 pub mod ActLaws
+pub mod GroupCallLaws
