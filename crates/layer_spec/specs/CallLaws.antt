@@ -1,8 +1,6 @@
 -- What single steps of the POSIX machine do and need: fork, exec, and refusals.
 use Rattle.std.specs.Prelude.{◌≡◌, ◌≢◌, ℕ, ◌+◌, pos, Bool, true, false, cond, ◌&&◌, not, IsTrue, nat_eq, nat_le, nat_lt, if◌then◌else◌, List, [], length, Option, Some, None, is_some}
 use Rattle.std.specs.Option.{unwrap_or}
-use Rattle.std.specs.Cmp.{nat_cmp_total, unsigned_tied}
-use Rattle.std.specs.FinMap as map
 use Rattle.std.specs.FinSet as set
 use Rattle.std.proofs.Common.{refl, sym, ap, subst, ◌∙◌}
 use Rattle.std.proofs.lemmas.Bool.{eq-eqb, eqb-true, ne_eqb, and_parts, false≢true}
@@ -20,7 +18,7 @@ use Rattle.w32_base.specs.declared.event.ForkCause.TheVariants as fork_cause
 use Rattle.std.proofs.lemmas.List.{nil_from_length}
 use Rattle.posix_spec.specs.Numbers.{for_value, error_result, is_same_number, answer_result, is_same_answer}
 use Rattle.posix_spec.specs.State.{GroupCall, Record, PosixState, record_of}
-use Rattle.posix_spec.specs.Records.{settled, with_record, changed_at, change_record, children}
+use Rattle.posix_spec.specs.Records.{settled, with_record, change_record, children}
 use Rattle.posix_spec.specs.Conditions.{next_of, call_of, may_act, own_call, group_step_call, with_results, answered, for_call, for_group_step}
 use Rattle.posix_spec.specs.ForkSteps.{is_fresh, child_of, with_used, fork_step, most_children, fork_fail_step, NumberedProgram, program_named, replaced, exec_to, exec_step}
 use Rattle.posix_spec.specs.GroupCalls.{killing_signal, kill_call, ends_with, is_complete, group_answer}
@@ -30,15 +28,10 @@ use Rattle.posix_spec.specs.Groups.{has_member}
 use Rattle.posix_spec.specs.KillSteps.{killed, One, Group, target_of, kill_answer, is_answer, kill_step, group_done_by, group_done_step}
 use Rattle.posix_spec.specs.Waits.{Wait, wait_of, matching}
 use Rattle.posix_spec.specs.WaitSteps.{find_no_child, no_child_step}
+use Rattle.layer_spec.specs.FateLaws.{record_of-with_record, changed, for_value_some, guarded}
 use Rattle.layer_spec.specs.Consequences.{KeepsProcess}
 use Rattle.posix_spec.specs.Run.{PosixStep}
 use Rattle.posix_spec.specs.Step.{posix_step}
-
--- a step that needs a value had one
-for_value_some : {A B : Type 0} → (o : Option A) (f : A → Option B) (y : B) → for_value o f ≡ Some y
-    → (x : A) × (o ≡ Some x) × (f x ≡ Some y)
-for_value_some None f y e = absurd (none-some y e)
-for_value_some (Some x) f y e = (x, refl, e)
 
 -- what a call's step did, where the process is known
 called : (script : Script) (s : PosixState) (p : ℕ) (step : Record → Instr → Option PosixState) (new : PosixState)
@@ -57,16 +50,6 @@ fork_done script s p c r instr.Fork new e =
     cond_some (nat_lt (length (children s p)) most_children && is_fresh script s c)
     (answered (with_used (with_record s c (child_of p r)) c) p (pos c)) new e
 fork_done script s p c r _ new e = absurd (none-some new e)
-
-record_of-with_record : (s : PosixState) (p : ℕ) (r : Record) (q : ℕ) →
-    record_of (with_record s p r) q ≡ cond (nat_eq q p) (Some (settled r)) (record_of s q)
-record_of-with_record s p r q =
-    map.get-insert nat_cmp_total s.records p (settled r) q
-    ∙ ap (λ b. cond b (Some (settled r)) (record_of s q)) (unsigned_tied q p)
-
-changed : (s : PosixState) (p : ℕ) (change : Record → Record) (r : Record) → record_of s p ≡ Some r
-    → change_record s p change ≡ with_record s p (change r)
-changed s p change r is = ap (changed_at s p change) is
 
 not_both : (b : Bool) → not b ≡ true → b ≡ true → ⊥
 not_both true denied holds = false≢true denied
@@ -112,11 +95,6 @@ forked script s new p c r used is e =
     let fresh : is_fresh script s c ≡ true =
     (and_parts (nat_lt (length (children s p)) most_children) (is_fresh script s c) done.0).1 in
     forked_apart script s new p c r (fresh_apart script s p c fresh used) is done.1
-
--- where a test guards a value, it was passed
-guarded : {A : Type 0} → (b : Bool) (o : Option A) (y : A) → cond b o None ≡ Some y → (b ≡ true) × (o ≡ Some y)
-guarded true o y e = (refl, e)
-guarded false o y e = absurd (none-some y e)
 
 exec_done : (s : PosixState) (p : ℕ) (o : Option NumberedProgram) (new : PosixState) → exec_to s p o ≡ Some new
     → (image : Image) × (change_record s p (replaced image) ≡ new)

@@ -16,6 +16,7 @@ use Rattle.layer_spec.specs.Moment.{Moment, Seen, HistoryStep}
 use Rattle.layer_spec.specs.Evidence.{HasEvidence}
 use Rattle.layer_spec.specs.History.{IsHistoryStep, IsHistory}
 use Rattle.layer_spec.specs.Consequences.{EachStep, ForkCopies, ExecKeeps, RefusalsHaveCauses}
+use Rattle.layer_spec.specs.DeathRuns.{history_uses_numbers}
 use Rattle.layer_spec.specs.CallLaws.{forked, executed, has_most_children, has_no_target, has_no_member, has_no_child}
 
 -- what holds of each step, and follows of another fact there, holds of each step too
@@ -94,3 +95,12 @@ module _ {A : Type 0} (posted_of : A → Call) (goes : A → Own → Setup → R
   each_refusal_has_cause script past now h =
       each_step_so (IsStep script) (RefusalsHaveCauses script) (refusals_have_causes script) past now
       (each_is_step script past now h)
+
+  -- After each fork of a history the child has its parent's image with result 0.
+  pub each_fork_copies : (script : Script) (past : List (Seen A)) (now : Moment A)
+      → IsHistory posted_of goes opening slot_of thread_of script past now → EachStep ForkCopies past now
+  each_fork_copies script [] now h = tt
+  each_fork_copies script (x ∷ past) now h =
+      (fork_copies script (record { past = past; before = x.before; entry = x.entry; after = now }) h.1
+      (history_uses_numbers posted_of goes opening slot_of thread_of script past x.before h.0),
+      each_fork_copies script past x.before h.0)
