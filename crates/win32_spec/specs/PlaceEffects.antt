@@ -77,12 +77,12 @@ modules-behind modules (x ∷ xs) m base free new h =
     ]
 
 -- a process in which modules alone are placed
-placed_becomes : (script : Script) (Written : Type 0) (p : Process) (k : ℕ) (placed : List PlacedModule) → is_alive p.life ≡ true → p.program ≡ Some k
-    → (AreModules script.setup.modules p.placed → AreModules script.setup.modules placed) → ProcessBecomes script Written p (record p { placed = placed })
-placed_becomes script Written p k placed alive program keeps = record {
+placed_becomes : (script : Script) (Written Acting : Type 0) (p : Process) (k : ℕ) (placed : List PlacedModule) → is_alive p.life ≡ true → p.program ≡ Some k → Acting
+    → (AreModules script.setup.modules p.placed → AreModules script.setup.modules placed) → ProcessBecomes script Written Acting p (record p { placed = placed })
+placed_becomes script Written Acting p k placed alive program acting keeps = record {
   ended = λ e. absurd (cc);
   number = refl; slot = refl; program = refl; life = refl; handles = refl; threads = λ ts h. h;
-  lengths = lengths-same p.own; bytes = λ n. refl; unplaced = λ e. absurd (cc); placed = keeps;
+  lengths = lengths-same p.own; bytes = λ n. refl; modules = λ n. absurd (n acting); posted = λ n t. refl; unplaced = λ e. absurd (cc); placed = keeps;
 }
 
 pub module_effect : (script : Script) (s : Win32State) (w t m : ℕ) (r : Reply) (new : Win32State)
@@ -94,8 +94,8 @@ module_effect script s w t m r new live step =
     subst (λ n. CallEffect script s w t (call.Module m) n) (sym places.after)
     (Changes (tame_process script (MayWrite s w (call.Module m)) (MayExchange (call.Module m)) w t s w
     (λ p. record p { placed = and_placed p.placed m places.base }) (λ p. refl)
-    (λ p f. placed_becomes script (MayWrite s w (call.Module m) w) p k (and_placed p.placed m places.base) (rw f at live)
-    (sym (ap program_no_of f) ∙ program)
+    (λ p f. placed_becomes script (MayWrite s w (call.Module m) w) (w ≡ w) p k (and_placed p.placed m places.base) (rw f at live)
+    (sym (ap program_no_of f) ∙ program) refl
     (modules-behind script.setup.modules p.placed m places.base (subst (λ o. base_in (placed_of o) m ≡ None) f free)
     (record { wanted = wanted; listed = listed; within = places.place.0.within }))))))
     (λ base e x. unchanged script s w t (call.Module m) new x.1) x) x) step

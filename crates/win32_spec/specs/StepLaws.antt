@@ -67,14 +67,14 @@ pub own_tame : (script : Script) (s : Win32State) (w t : ℕ) (own : Own) → is
     → IsTame script (λ v. v ≡ w) ⊥ w t s (with_own s w own)
 own_tame script s w t own live lengths =
     tame_process script (λ v. v ≡ w) ⊥ w t s w (λ q. record q { own = own }) (λ q. refl)
-    (λ q f. memory_becomes script (w ≡ w) q own (rw f at live) refl (subst (λ o. KeepsLengths o own) (memory_by-found s w q f) lengths))
+    (λ q f. memory_becomes script (w ≡ w) (w ≡ w) q own (rw f at live) refl (subst (λ o. KeepsLengths o own) (memory_by-found s w q f) lengths))
 
 pub posted_tame : (script : Script) (s : Win32State) (w t : ℕ) (next : Call) → is_live (process_of s.processes w) ≡ true
     → IsTame script (λ v. v ≡ w) ⊥ w t s (with_posted s w t next)
 posted_tame script s w t next live =
     tame_process script (λ v. v ≡ w) ⊥ w t s w (λ q. record q { threads = change_thread t (λ x. record x { posted = next }) q.threads }) (λ q. refl)
-    (λ q f. threads_become script (w ≡ w) q (change_thread t (λ x. record x { posted = next }) q.threads) (rw f at live)
-    (λ ts h. threads-change t (λ x. record x { posted = next }) (λ x. refl) (λ x l. l) ts q.threads h))
+    (λ q f. threads_become script (w ≡ w) (w ≡ w) q (change_thread t (λ x. record x { posted = next }) q.threads) (rw f at live)
+    (λ ts h. threads-change t (λ x. record x { posted = next }) (λ x. refl) (λ x l. l) ts q.threads h) (λ n. absurd (n refl)))
 
 pub live-with_own : (s : Win32State) (w : ℕ) (own : Own) → is_live (process_of s.processes w) ≡ true
     → is_live (process_of (with_own s w own).processes w) ≡ true

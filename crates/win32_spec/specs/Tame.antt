@@ -1,10 +1,11 @@
 -- Changes that leave handles, lives and kinds alone: of threads, of bytes, of placed modules and of what objects hold.
 use Rattle.std.specs.Prelude.{◌≡◌, ◌⊎◌, ℕ, ◌≤◌, false, List, length, Option, Some, None}
 use Rattle.w32_base.specs.Part.{KeepsLengths}
+use Rattle.w32_base.specs.declared.call.Call.{Call}
 use Rattle.script_spec.specs.declared.script.Script.{Script}
 use Rattle.win32_spec.specs.Objects.{Free, Owned}
-use Rattle.win32_spec.specs.State.{Object, Section, Event, Mutex, Pipe, ProcessObject, TerminalObject, NumberedObject, Process, Win32State}
-use Rattle.win32_spec.specs.Lookup.{is_alive, process_of, object_of}
+use Rattle.win32_spec.specs.State.{Object, Section, Event, Mutex, Pipe, ProcessObject, TerminalObject, NumberedObject, Thread, Process, Win32State}
+use Rattle.win32_spec.specs.Lookup.{is_alive, process_of, thread_in, object_of}
 use Rattle.win32_spec.specs.WellFormed.{AreRisingProcesses, AreRisingObjects, AreThreads, AreModules, has_ends, only_number}
 
 -- a relation of what is found before and after: both are absent, or both are there and related
@@ -14,8 +15,18 @@ Both R None (Some y) = ⊥
 Both R (Some x) None = ⊥
 Both R (Some x) (Some y) = R x y
 
--- A process after such a change. Its bytes are as before unless `Written` holds.
-pub record ProcessBecomes (script : Script) (Written : Type 0) (p q : Process) : Type 0 where
+-- the posted call of a thread
+abbrev pub posted_by : Option Thread → Option Call
+posted_by None = None
+posted_by (Some x) = Some x.posted
+
+-- each thread has the same posted call
+abbrev pub PostTheSame : List Thread → List Thread → Type 0
+PostTheSame xs ys = (t : ℕ) → posted_by (thread_in ys t) ≡ posted_by (thread_in xs t)
+
+-- A process after such a change. Its bytes are as before unless `Written` holds, and its modules and its posted calls unless
+-- `Acting` does.
+pub record ProcessBecomes (script : Script) (Written Acting : Type 0) (p q : Process) : Type 0 where
   pub ended : is_alive p.life ≡ false → q ≡ p
   pub number : q.number ≡ p.number
   pub slot : q.slot ≡ p.slot
@@ -25,6 +36,8 @@ pub record ProcessBecomes (script : Script) (Written : Type 0) (p q : Process) :
   pub threads : (ts : List ℕ) → AreThreads ts p.threads → AreThreads ts q.threads
   pub lengths : KeepsLengths p.own q.own
   pub bytes : (Written → ⊥) → q.own ≡ p.own
+  pub modules : (Acting → ⊥) → q.placed ≡ p.placed
+  pub posted : (Acting → ⊥) → PostTheSame p.threads q.threads
   pub unplaced : p.program ≡ None → q.placed ≡ p.placed
   pub placed : AreModules script.setup.modules p.placed → AreModules script.setup.modules q.placed
 
@@ -44,9 +57,9 @@ pub record ObjectBecomes (Exchanged : Type 0) (w t : ℕ) (x y : Object) : Type 
   pub ends : has_ends y ≡ has_ends x
   pub holds : HoldsNext Exchanged w t x y
 
-pub record AreProcessesNext (script : Script) (Written : ℕ → Type 0) (ps qs : List Process) : Type 0 where
+pub record AreProcessesNext (script : Script) (Written : ℕ → Type 0) (w : ℕ) (ps qs : List Process) : Type 0 where
   pub rising : (low next : ℕ) → AreRisingProcesses low next ps → AreRisingProcesses low next qs
-  pub process : (v : ℕ) → Both (ProcessBecomes script (Written v)) (process_of ps v) (process_of qs v)
+  pub process : (v : ℕ) → Both (ProcessBecomes script (Written v) (v ≡ w)) (process_of ps v) (process_of qs v)
 
 pub record AreObjectsNext (Exchanged : Type 0) (w t : ℕ) (xs ys : List NumberedObject) : Type 0 where
   pub rising : (low : ℕ) → AreRisingObjects low xs → AreRisingObjects low ys
@@ -56,5 +69,5 @@ pub record AreObjectsNext (Exchanged : Type 0) (w t : ℕ) (xs ys : List Numbere
 -- of a section only where `Exchanged` holds.
 pub record IsTame (script : Script) (Written : ℕ → Type 0) (Exchanged : Type 0) (w t : ℕ) (s new : Win32State) : Type 0 where
   pub next : new.next ≡ s.next
-  pub processes : AreProcessesNext script Written s.processes new.processes
+  pub processes : AreProcessesNext script Written w s.processes new.processes
   pub objects : AreObjectsNext Exchanged w t s.objects new.objects

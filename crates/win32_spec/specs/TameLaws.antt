@@ -40,9 +40,9 @@ sizes_stay p q a b c d e k h = record {
   scratch_size = k.scratch ∙ h.scratch_size;
 }
 
-kind_stays : (script : Script) (Written : Type 0) (p q : Process) → ProcessBecomes script Written p q
+kind_stays : (script : Script) (Written Acting : Type 0) (p q : Process) → ProcessBecomes script Written Acting p q
     → MatchOption p.program (IsHost p) (IsLayerProcess script p) → MatchOption q.program (IsHost q) (IsLayerProcess script q)
-kind_stays script Written p q b k = subst (λ o. MatchOption o (IsHost q) (IsLayerProcess script q)) (sym b.program) (by_program p.program refl k)
+kind_stays script Written Acting p q b k = subst (λ o. MatchOption o (IsHost q) (IsLayerProcess script q)) (sym b.program) (by_program p.program refl k)
   where
     by_program : (o : Option ℕ) → p.program ≡ o → MatchOption o (IsHost p) (IsLayerProcess script p)
         → MatchOption o (IsHost q) (IsLayerProcess script q)
@@ -81,12 +81,12 @@ process_object-stays Exchanged w t v _ h = absurd h
 module _ (script : Script) (Written : ℕ → Type 0) (Exchanged : Type 0) (w t : ℕ) (s new : Win32State) (h : IsFormed script s)
     (tame : IsTame script Written Exchanged w t s new) where
   back : (v : ℕ) (q : Process) → process_of new.processes v ≡ Some q
-      → (p : Process) × (process_of s.processes v ≡ Some p) × ProcessBecomes script (Written v) p q
-  back v q e = both_back (ProcessBecomes script (Written v)) (process_of s.processes v) (process_of new.processes v) q (tame.processes.process v) e
+      → (p : Process) × (process_of s.processes v ≡ Some p) × ProcessBecomes script (Written v) (v ≡ w) p q
+  back v q e = both_back (ProcessBecomes script (Written v) (v ≡ w)) (process_of s.processes v) (process_of new.processes v) q (tame.processes.process v) e
 
   forth : (v : ℕ) (p : Process) → process_of s.processes v ≡ Some p
-      → (q : Process) × (process_of new.processes v ≡ Some q) × ProcessBecomes script (Written v) p q
-  forth v p e = both_forth (ProcessBecomes script (Written v)) (process_of s.processes v) (process_of new.processes v) p (tame.processes.process v) e
+      → (q : Process) × (process_of new.processes v ≡ Some q) × ProcessBecomes script (Written v) (v ≡ w) p q
+  forth v p e = both_forth (ProcessBecomes script (Written v) (v ≡ w)) (process_of s.processes v) (process_of new.processes v) p (tame.processes.process v) e
 
   object_back : (o : ℕ) (y : Object) → object_of new.objects o ≡ Some y
       → (x : Object) × (object_of s.objects o ≡ Some x) × ObjectBecomes Exchanged w t x y
@@ -102,13 +102,13 @@ module _ (script : Script) (Written : ℕ → Type 0) (Exchanged : Type 0) (w t 
       let y = object_forth (object_number names) at.0 at.1 in
       to_listed new.objects names y.0 y.1 (λ e. at.2 (sym y.2.ends ∙ e))
 
-  tame_process : (q p : Process) (v : ℕ) → ProcessBecomes script (Written v) p q → IsProcessBy script s.objects p p.life
+  tame_process : (q p : Process) (v : ℕ) → ProcessBecomes script (Written v) (v ≡ w) p q → IsProcessBy script s.objects p p.life
       → IsProcessBy script new.objects q q.life
   tame_process q p v b k = subst (λ l. IsProcessBy script new.objects q l) (sym b.life) (by_life p.life refl k)
     where
       by_life : (life : Life) → p.life ≡ life → IsProcessBy script s.objects p life → IsProcessBy script new.objects q life
       by_life Alive l f = record {
-        kind = kind_stays script (Written v) p q b f.kind;
+        kind = kind_stays script (Written v) (v ≡ w) p q b f.kind;
         threads = rw b.slot (b.threads (threads_of p.slot) f.threads);
         rising = rw b.handles f.rising;
         naming = λ i names e. tame_listed names (f.naming i names (rw b.handles at e));

@@ -15,8 +15,8 @@ pub lengths-same : (own : Own) → KeepsLengths own own
 lengths-same own = record { dat = refl; heap = refl; stack = refl; cyg = refl; scratch = refl }
 
 -- a process that stays as it is
-pub process_same : (script : Script) (Written : Type 0) (p : Process) → ProcessBecomes script Written p p
-process_same script Written p = record {
+pub process_same : (script : Script) (Written Acting : Type 0) (p : Process) → ProcessBecomes script Written Acting p p
+process_same script Written Acting p = record {
   ended = λ e. refl;
   number = refl;
   slot = refl;
@@ -25,15 +25,15 @@ process_same script Written p = record {
   handles = refl;
   threads = λ ts h. h;
   lengths = lengths-same p.own;
-  bytes = λ n. refl;
+  bytes = λ n. refl; modules = λ n. refl; posted = λ n t. refl;
   unplaced = λ e. refl;
   placed = λ h. h;
 }
 
-pub processes_same : (script : Script) (Written : ℕ → Type 0) (ps : List Process) → AreProcessesNext script Written ps ps
-processes_same script Written ps = record {
+pub processes_same : (script : Script) (Written : ℕ → Type 0) (w : ℕ) (ps : List Process) → AreProcessesNext script Written w ps ps
+processes_same script Written w ps = record {
   rising = λ low next r. r;
-  process = λ v. both_same (ProcessBecomes script (Written v)) (process_of ps v) (process_of ps v) (process_same script (Written v)) refl;
+  process = λ v. both_same (ProcessBecomes script (Written v) (v ≡ w)) (process_of ps v) (process_of ps v) (process_same script (Written v) (v ≡ w)) refl;
 }
 
 both_some : {X : Type 0} (R : X → X → Type 0) (o n : Option X) (x y : X) → o ≡ Some x → n ≡ Some y → R x y → Both R o n
@@ -43,28 +43,28 @@ both_none : {X : Type 0} (R : X → X → Type 0) (o n : Option X) → o ≡ Non
 both_none {X = X} R o n e f = subst (λ k. Both R k n) (sym e) (subst (λ k. Both R None k) (sym f) tt)
 
 -- one process changes
-pub processes_change : (script : Script) (Written : ℕ → Type 0) (ps : List Process) (v : ℕ) (f : Process → Process)
-    → ((p : Process) → (f p).number ≡ p.number) → ((p : Process) → process_of ps v ≡ Some p → ProcessBecomes script (Written v) p (f p))
-    → AreProcessesNext script Written ps (change_process v f ps)
-processes_change script Written ps v f keeps becomes = record {
+pub processes_change : (script : Script) (Written : ℕ → Type 0) (w : ℕ) (ps : List Process) (v : ℕ) (f : Process → Process)
+    → ((p : Process) → (f p).number ≡ p.number) → ((p : Process) → process_of ps v ≡ Some p → ProcessBecomes script (Written v) (v ≡ w) p (f p))
+    → AreProcessesNext script Written w ps (change_process v f ps)
+processes_change script Written w ps v f keeps becomes = record {
   rising = λ low next r. rising-change_process v f keeps low next ps r;
   process = λ u. elim (cases_eq u v) [
     | inl n ↦
-        subst (λ k. Both (ProcessBecomes script (Written k)) (process_of ps k) (process_of (change_process v f ps) k)) (sym n)
+        subst (λ k. Both (ProcessBecomes script (Written k) (k ≡ w)) (process_of ps k) (process_of (change_process v f ps) k)) (sym n)
         (here (process_of ps v) refl)
     | inr d ↦
-        both_same (ProcessBecomes script (Written u)) (process_of ps u) (process_of (change_process v f ps) u)
-        (process_same script (Written u)) (process_of-change_other v f keeps ps u d)
+        both_same (ProcessBecomes script (Written u) (u ≡ w)) (process_of ps u) (process_of (change_process v f ps) u)
+        (process_same script (Written u) (u ≡ w)) (process_of-change_other v f keeps ps u d)
   ];
 }
   where
     here : (o : Option Process) → process_of ps v ≡ o
-        → Both (ProcessBecomes script (Written v)) (process_of ps v) (process_of (change_process v f ps) v)
+        → Both (ProcessBecomes script (Written v) (v ≡ w)) (process_of ps v) (process_of (change_process v f ps) v)
     here None e =
-        both_none (ProcessBecomes script (Written v)) (process_of ps v) (process_of (change_process v f ps) v) e
+        both_none (ProcessBecomes script (Written v) (v ≡ w)) (process_of ps v) (process_of (change_process v f ps) v) e
         (process_of-change_none v f ps e)
     here (Some p) e =
-        both_some (ProcessBecomes script (Written v)) (process_of ps v) (process_of (change_process v f ps) v) p (f p) e
+        both_some (ProcessBecomes script (Written v) (v ≡ w)) (process_of ps v) (process_of (change_process v f ps) v) p (f p) e
         (process_of-change_same v f keeps ps p e) (becomes p e)
 
 -- an object that stays as it is
@@ -105,17 +105,17 @@ objects_change Exchanged w t xs o x y e b = record {
 pub tame_same : (script : Script) (Written : ℕ → Type 0) (Exchanged : Type 0) (w t : ℕ) (s : Win32State) → IsTame script Written Exchanged w t s s
 tame_same script Written Exchanged w t s = record {
   next = refl;
-  processes = processes_same script Written s.processes;
+  processes = processes_same script Written w s.processes;
   objects = objects_same Exchanged w t s.objects;
 }
 
 pub tame_process : (script : Script) (Written : ℕ → Type 0) (Exchanged : Type 0) (w t : ℕ) (s : Win32State) (v : ℕ) (f : Process → Process)
     → ((p : Process) → (f p).number ≡ p.number)
-    → ((p : Process) → process_of s.processes v ≡ Some p → ProcessBecomes script (Written v) p (f p))
+    → ((p : Process) → process_of s.processes v ≡ Some p → ProcessBecomes script (Written v) (v ≡ w) p (f p))
     → IsTame script Written Exchanged w t s (with_process s v f)
 tame_process script Written Exchanged w t s v f keeps becomes = record {
   next = refl;
-  processes = processes_change script Written s.processes v f keeps becomes;
+  processes = processes_change script Written w s.processes v f keeps becomes;
   objects = objects_same Exchanged w t s.objects;
 }
 
@@ -123,6 +123,6 @@ pub tame_object : (script : Script) (Written : ℕ → Type 0) (Exchanged : Type
     → object_of s.objects o ≡ Some x → ObjectBecomes Exchanged w t x y → IsTame script Written Exchanged w t s (with_object s o y)
 tame_object script Written Exchanged w t s o x y e b = record {
   next = refl;
-  processes = processes_same script Written s.processes;
+  processes = processes_same script Written w s.processes;
   objects = objects_change Exchanged w t s.objects o x y e b;
 }

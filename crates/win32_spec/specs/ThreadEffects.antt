@@ -21,7 +21,7 @@ use Rattle.win32_spec.specs.ProcessCalls.{live_of, live_process, resumed, suspen
 use Rattle.win32_spec.specs.MemoryCalls.{has_range, copied, is_copyable, ReadMemoryStep, WriteMemoryStep}
 use Rattle.win32_spec.specs.WellFormed.{AreThreads}
 use Rattle.win32_spec.specs.LookupLaws.{and_true, or_true, same_some}
-use Rattle.win32_spec.specs.Tame.{ProcessBecomes, IsTame}
+use Rattle.win32_spec.specs.Tame.{posted_by, PostTheSame, ProcessBecomes, IsTame}
 use Rattle.win32_spec.specs.TameSteps.{lengths-same, tame_process}
 use Rattle.win32_spec.specs.Effects.{MayWrite, MayExchange, CallEffect, Changes}
 use Rattle.win32_spec.specs.CallEffects.{by_bool, by_option, unchanged}
@@ -36,21 +36,22 @@ live_of-found (Some q) p e = by_test (is_alive q.life) refl e
     by_test false t f = absurd (cc)
 
 -- a process whose threads alone change
-pub threads_become : (script : Script) (Written : Type 0) (p : Process) (xs : List Thread) → is_alive p.life ≡ true
-    → ((ts : List ℕ) → AreThreads ts p.threads → AreThreads ts xs) → ProcessBecomes script Written p (record p { threads = xs })
-threads_become script Written p xs alive keeps = record {
+pub threads_become : (script : Script) (Written Acting : Type 0) (p : Process) (xs : List Thread) → is_alive p.life ≡ true
+    → ((ts : List ℕ) → AreThreads ts p.threads → AreThreads ts xs) → ((Acting → ⊥) → PostTheSame p.threads xs)
+    → ProcessBecomes script Written Acting p (record p { threads = xs })
+threads_become script Written Acting p xs alive keeps posted = record {
   ended = λ e. absurd (cc);
   number = refl; slot = refl; program = refl; life = refl; handles = refl; threads = keeps;
-  lengths = lengths-same p.own; bytes = λ n. refl; unplaced = λ e. refl; placed = λ h. h;
+  lengths = lengths-same p.own; bytes = λ n. refl; modules = λ n. refl; posted = posted; unplaced = λ e. refl; placed = λ h. h;
 }
 
 -- a process whose memory alone changes
-pub memory_becomes : (script : Script) (Written : Type 0) (p : Process) (own : Own) → is_alive p.life ≡ true → Written → KeepsLengths p.own own
-    → ProcessBecomes script Written p (record p { own = own })
-memory_becomes script Written p own alive written lengths = record {
+pub memory_becomes : (script : Script) (Written Acting : Type 0) (p : Process) (own : Own) → is_alive p.life ≡ true → Written → KeepsLengths p.own own
+    → ProcessBecomes script Written Acting p (record p { own = own })
+memory_becomes script Written Acting p own alive written lengths = record {
   ended = λ e. absurd (cc);
   number = refl; slot = refl; program = refl; life = refl; handles = refl; threads = λ ts h. h;
-  lengths = lengths; bytes = λ n. absurd (n written); unplaced = λ e. refl; placed = λ h. h;
+  lengths = lengths; bytes = λ n. absurd (n written); modules = λ n. refl; posted = λ n t. refl; unplaced = λ e. refl; placed = λ h. h;
 }
 
 -- one thread of others changes
@@ -64,6 +65,19 @@ threads-change t f number most (n ∷ ts) (x ∷ xs) h = by_test (nat_eq x.numbe
     by_test : (b : Bool) → AreThreads ts (change_thread t f xs) → AreThreads (n ∷ ts) ((if b then f x else x) ∷ change_thread t f xs)
     by_test true rest = (number x ∙ h.0, most x h.1, rest)
     by_test false rest = (h.0, h.1, rest)
+
+-- and keeps its posted call
+pub posted-change : (t : ℕ) (f : Thread → Thread) → ((x : Thread) → (f x).number ≡ x.number) → ((x : Thread) → (f x).posted ≡ x.posted)
+    → (xs : List Thread) → PostTheSame xs (change_thread t f xs)
+posted-change t f number posted [] u = refl
+posted-change t f number posted (x ∷ xs) u = by_tests (nat_eq x.number t) (nat_eq x.number u) refl (posted-change t f number posted xs u)
+  where
+    by_tests : (a b : Bool) → nat_eq x.number u ≡ b → posted_by (thread_in (change_thread t f xs) u) ≡ posted_by (thread_in xs u)
+        → posted_by (thread_in ((if a then f x else x) ∷ change_thread t f xs) u) ≡ posted_by (if b then Some x else thread_in xs u)
+    by_tests true true e rest = rw (number x, e) (ap Some (posted x))
+    by_tests true false e rest = rw (number x, e) rest
+    by_tests false true e rest = rw e refl
+    by_tests false false e rest = rw e rest
 
 pub resumed-most : (n : ℕ) → n ≤ 100 → resumed n ≤ 100
 resumed-most n l = omega arith
@@ -85,9 +99,10 @@ count_effect script s w t c f most v x r new step =
     (Changes (tame_process script (MayWrite s w c) (MayExchange c) w t s v
     (λ q. record q { threads = change_thread x (λ y. record y { suspended = f y.suspended }) q.threads }) (λ q. refl)
     (λ q g. let same : p ≡ q = same_some (process_of s.processes v) p q found.0 g in
-    threads_become script (MayWrite s w c v) q (change_thread x (λ y. record y { suspended = f y.suspended }) q.threads)
+    threads_become script (MayWrite s w c v) (v ≡ w) q (change_thread x (λ y. record y { suspended = f y.suspended }) q.threads)
     (rw (← same) found.1)
-    (λ ts h. threads-change x (λ y. record y { suspended = f y.suspended }) (λ y. refl) (λ y l. most y.suspended l) ts q.threads h))))) m) step
+    (λ ts h. threads-change x (λ y. record y { suspended = f y.suspended }) (λ y. refl) (λ y l. most y.suspended l) ts q.threads h)
+    (λ n. posted-change x (λ y. record y { suspended = f y.suspended }) (λ y. refl) (λ y. refl) q.threads))))) m) step
 
 pub resume_effect : (script : Script) (s : Win32State) (w t h x : ℕ) (r : Reply) (new : Win32State) → ResumeStep s w h x r new
     → CallEffect script s w t (call.Resume h x) new
