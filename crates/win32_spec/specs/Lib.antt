@@ -43,3 +43,4 @@ pub mod EffectLaws
 pub mod KeepLaws
 pub mod StepLaws
 pub mod OpeningLaws
+pub mod OtherLaws
