@@ -44,3 +44,4 @@ pub mod KeepLaws
 pub mod StepLaws
 pub mod OpeningLaws
 pub mod OtherLaws
+pub mod EndedLaws
