@@ -45,3 +45,4 @@ pub mod StepLaws
 pub mod OpeningLaws
 pub mod OtherLaws
 pub mod EndedLaws
+pub mod ObjectSteps

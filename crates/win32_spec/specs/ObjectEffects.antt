@@ -1,15 +1,16 @@
 -- Each call makes one of the changes: the calls on events, mutexes, pipes and waits.
-use Rattle.std.proofs.Common.{◌≡◌, ◌≢◌, ◌⊎◌, inl, inr, ℕ, ◌+◌, ◌≤◌, ◌<◌, Bool, true, false, if◌then◌else◌, nat_eq, nat_lt, List, [], ◌∷◌, ◌++◌, length, Option, Some, None, MatchOption, MatchBool, slice_index, refl, sym, ap, ◌∙◌, subst, arith, length-append}
+use Rattle.std.proofs.Common.{◌≡◌, ◌≢◌, ◌⊎◌, inl, inr, ℕ, suc, ◌+◌, ◌≤◌, ◌<◌, Bool, true, false, if◌then◌else◌, nat_eq, nat_lt, List, [], ◌∷◌, ◌++◌, length, Option, Some, None, MatchOption, MatchBool, slice_index, refl, sym, ap, ◌∙◌, subst, arith, length-append}
 use Rattle.std.proofs.lemmas.Bool.Decides.{nat_tests}
 use Rattle.w32_base.specs.declared.call.Call.{Call}
 use Rattle.w32_base.specs.declared.call.Call.TheVariants as call
 use Rattle.w32_base.specs.declared.call.Reply.{Reply}
 use Rattle.script_spec.specs.declared.script.Script.{Script}
+use Rattle.win32_spec.specs.Handles.{Handle, handle_of}
 use Rattle.win32_spec.specs.Objects.{EventState, event_set, event_reset, event_taken, Ownership, Free, Owned, is_owner, PipeState, put_after, get_after, without_first}
 use Rattle.win32_spec.specs.State.{Object, Section, Event, Mutex, Pipe, ProcessObject, TerminalObject, Process, Win32State}
-use Rattle.win32_spec.specs.Lookup.{process_of, is_live, object_of}
-use Rattle.win32_spec.specs.Named.{handles_by, named_by, object_number_by, object_by, event_named, mutex_named, pipe_named, is_full, has_absent, Gives, MakesObject}
-use Rattle.win32_spec.specs.Ready.{is_first_end}
+use Rattle.win32_spec.specs.Lookup.{process_of, is_live, object_of, with_object}
+use Rattle.win32_spec.specs.Named.{handles_by, named_by, object_number_by, object_at, object_by, event_named, mutex_named, pipe_named, is_full, has_absent, Gives, MakesObject}
+use Rattle.win32_spec.specs.Ready.{is_first_end, is_signalled, is_handle_signalled}
 use Rattle.win32_spec.specs.ObjectCalls.{EventStep, SetStep, ResetStep, MutexStep, ReleaseStep, PipeStep, at_read_end, at_write_end, read_end_by, write_end_by, pipe_by, PutStep, GetStep}
 use Rattle.win32_spec.specs.HandleCalls.{first_signalled, taken_object, TakesObject, WaitStep}
 use Rattle.win32_spec.specs.WellFormed.{only_number, IsObject}
@@ -37,7 +38,7 @@ release_effect script s w t h r new step =
     by_option (mutex_named (object_by s w h)) (λ e m. unchanged script s w t (call.Release h) new m.1) (λ owner e m.
     by_bool (is_owner owner w t)
     (λ owns m. object_changes script s w t (call.Release h) h (Mutex owner) (Mutex Free) new (is_mutex (object_by s w h) owner e)
-    (record { only = refl; ends = refl; holds = inr (inl refl) }) m.1)
+    (record { only = refl; ends = refl; holds = inr (inl (owns, refl)) }) m.1)
     (λ owns m. unchanged script s w t (call.Release h) new m.1) m) step
 
 -- A pipe with one byte more or less.
@@ -86,23 +87,50 @@ get_effect script s w t h r new step =
     (is_pipe (object_by s w h) bytes (read_end (named_by s w h) (pipe_named (object_by s w h)) bytes e))
     (record { only = refl; ends = refl; holds = get-room bytes }) m.1) step
 
--- An object that a wait takes.
-taken : (E : Type 0) (w t : ℕ) (x : Object) → ObjectBecomes E w t x (taken_object w t x)
-taken E w t (Section words) = record { only = refl; ends = refl; holds = (refl, λ n. refl) }
-taken E w t (Event e) = record { only = refl; ends = refl; holds = tt }
-taken E w t (Mutex owner) = record { only = refl; ends = refl; holds = inr (inr refl) }
-taken E w t (Pipe bytes) = record { only = refl; ends = refl; holds = λ l. l }
-taken E w t (ProcessObject v) = record { only = refl; ends = refl; holds = refl }
-taken E w t (TerminalObject terminal) = record { only = refl; ends = refl; holds = tt }
+-- An object that a wait takes: a mutex is free for the thread.
+taken : (E : Type 0) (s : Win32State) (w t names : ℕ) (x : Object) → is_signalled s w t names (Some x) ≡ true → ObjectBecomes E w t x (taken_object w t x)
+taken E s w t names (Section words) g = record { only = refl; ends = refl; holds = (refl, λ n. refl) }
+taken E s w t names (Event e) g = record { only = refl; ends = refl; holds = tt }
+taken E s w t names (Mutex owner) g = record { only = refl; ends = refl; holds = inr (inr (g, refl)) }
+taken E s w t names (Pipe bytes) g = record { only = refl; ends = refl; holds = λ l. l }
+taken E s w t names (ProcessObject v) g = record { only = refl; ends = refl; holds = refl }
+taken E s w t names (TerminalObject terminal) g = record { only = refl; ends = refl; holds = tt }
+
+-- the first signalled place is signalled
+pub first_signalled-is : (s : Win32State) (w t : ℕ) (handles : List Handle) (list : List ℕ) (m n : ℕ) → first_signalled s w t handles list m ≡ Some n
+    → (k : ℕ) × (n ≡ m + k) × (is_handle_signalled s w t (handle_of handles (slice_index list k)) ≡ true)
+first_signalled-is s w t handles [] m n e = absurd (cc)
+first_signalled-is s w t handles (h ∷ hs) m n e =
+    by_test (is_handle_signalled s w t (handle_of handles h)) refl e (first_signalled-is s w t handles hs (m + 1) n)
+  where
+    by_test : (b : Bool) → is_handle_signalled s w t (handle_of handles h) ≡ b
+        → (if b then Some m else first_signalled s w t handles hs (m + 1)) ≡ Some n
+        → (first_signalled s w t handles hs (m + 1) ≡ Some n
+          → (k : ℕ) × (n ≡ m + 1 + k) × (is_handle_signalled s w t (handle_of handles (slice_index hs k)) ≡ true))
+        → (k : ℕ) × (n ≡ m + k) × (is_handle_signalled s w t (handle_of handles (slice_index (h ∷ hs) k)) ≡ true)
+    by_test true f g rest = let i : m ≡ n = cc in (0, omega arith, f)
+    by_test false f g rest = let r = rest g in (suc r.0, omega (arith, r.1), r.2)
+
+-- the object at a signalled place is taken
+takes_effect : (script : Script) (s : Win32State) (w t : ℕ) (c : Call) (h : ℕ) (x : Object) (new : Win32State)
+    → is_handle_signalled s w t (named_by s w h) ≡ true → object_by s w h ≡ Some x
+    → new ≡ with_object s (object_number_by s w h) (taken_object w t x) → CallEffect script s w t c new
+takes_effect script s w t c h x new signalled e after =
+    object_changes script s w t c h x (taken_object w t x) new e (by_answer (named_by s w h) signalled e) after
+  where
+    by_answer : (o : Option ℕ) → is_handle_signalled s w t o ≡ true → object_at s o ≡ Some x → ObjectBecomes (MayExchange c) w t x (taken_object w t x)
+    by_answer None g f = absurd (cc)
+    by_answer (Some names) g f = taken (MayExchange c) s w t names x (rw f at g)
 
 pub wait_effect : (script : Script) (s : Win32State) (w t : ℕ) (list : List ℕ) (r : Reply) (new : Win32State) → WaitStep s w t list r new
     → CallEffect script s w t (call.WaitAny list) new
 wait_effect script s w t list r new step =
     by_bool (has_absent (handles_by s w) list) (λ e m. unchanged script s w t (call.WaitAny list) new m.1) (λ e m.
     by_option (first_signalled s w t (handles_by s w) list 0) (λ f m. absurd m) (λ n f m.
+    let at = first_signalled-is s w t (handles_by s w) list 0 n f in
+    let k : n ≡ at.0 = omega (arith, at.1) in
     by_option (object_by s w (slice_index list n)) (λ g m. absurd m) (λ x g m.
-    object_changes script s w t (call.WaitAny list) (slice_index list n) x (taken_object w t x) new g
-    (taken (MayExchange (call.WaitAny list)) w t x) m.1) m) m) step
+    takes_effect script s w t (call.WaitAny list) (slice_index list n) x new (rw k at.2) g m.1) m) m) step
 
 -- New objects.
 pub made_effect : (script : Script) (s : Win32State) (w t : ℕ) (c : Call) (x : Object) (r : Reply) (new : Win32State) → IsObject s.processes x

@@ -1,9 +1,9 @@
 -- Changes that leave handles, lives and kinds alone: of threads, of bytes, of placed modules and of what objects hold.
-use Rattle.std.specs.Prelude.{◌≡◌, ◌⊎◌, ℕ, ◌≤◌, false, List, length, Option, Some, None}
+use Rattle.std.specs.Prelude.{true, ◌≡◌, ◌⊎◌, ℕ, ◌≤◌, false, List, length, Option, Some, None}
 use Rattle.w32_base.specs.Part.{KeepsLengths}
 use Rattle.w32_base.specs.declared.call.Call.{Call}
 use Rattle.script_spec.specs.declared.script.Script.{Script}
-use Rattle.win32_spec.specs.Objects.{Free, Owned}
+use Rattle.win32_spec.specs.Objects.{Free, Owned, is_owner, is_free_for}
 use Rattle.win32_spec.specs.State.{Object, Section, Event, Mutex, Pipe, ProcessObject, TerminalObject, NumberedObject, Thread, Process, Win32State}
 use Rattle.win32_spec.specs.Lookup.{is_alive, process_of, thread_in, object_of}
 use Rattle.win32_spec.specs.WellFormed.{AreRisingProcesses, AreRisingObjects, AreThreads, AreModules, has_ends, only_number}
@@ -41,11 +41,13 @@ pub record ProcessBecomes (script : Script) (Written Acting : Type 0) (p q : Pro
   pub unplaced : p.program ≡ None → q.placed ≡ p.placed
   pub placed : AreModules script.setup.modules p.placed → AreModules script.setup.modules q.placed
 
--- what an object holds after a change by thread t of process w; a section's words are as before unless `Exchanged` holds
+-- What an object holds after a change by thread t of process w. A section's words are as before unless `Exchanged` holds.
+-- A mutex is freed by its owner alone, and taken only where it is free for the thread.
 abbrev pub HoldsNext : Type 0 → ℕ → ℕ → Object → Object → Type 0
 HoldsNext Exchanged w t (Section words) (Section new) = (length new ≡ length words) × ((Exchanged → ⊥) → new ≡ words)
 HoldsNext Exchanged w t (Event e) (Event new) = Unit {0}
-HoldsNext Exchanged w t (Mutex owner) (Mutex new) = (new ≡ owner) ⊎ (new ≡ Free) ⊎ (new ≡ Owned w t)
+HoldsNext Exchanged w t (Mutex owner) (Mutex new) =
+    (new ≡ owner) ⊎ ((is_owner owner w t ≡ true) × (new ≡ Free)) ⊎ ((is_free_for owner w t ≡ true) × (new ≡ Owned w t))
 HoldsNext Exchanged w t (Pipe bytes) (Pipe new) = length bytes ≤ 64 → length new ≤ 64
 HoldsNext Exchanged w t (ProcessObject v) (ProcessObject new) = new ≡ v
 HoldsNext Exchanged w t (TerminalObject terminal) (TerminalObject new) = Unit {0}

@@ -66,7 +66,7 @@ object_stays Exchanged w t ps (Event e) (Event new) live few h i = tt
 object_stays Exchanged w t ps (Mutex owner) (Mutex new) live few h i =
     elim h [
       | inl e ↦ subst (IsOwnership ps) (sym e) i
-      | inr rest ↦ elim rest [ inl e ↦ subst (IsOwnership ps) (sym e) tt | inr e ↦ subst (IsOwnership ps) (sym e) (live, few) ]
+      | inr rest ↦ elim rest [ inl e ↦ subst (IsOwnership ps) (sym e.1) tt | inr e ↦ subst (IsOwnership ps) (sym e.1) (live, few) ]
     ]
 object_stays Exchanged w t ps (Pipe bytes) (Pipe new) live few h i = h i
 object_stays Exchanged w t ps (ProcessObject v) (ProcessObject new) live few h i = rw h i
