@@ -46,3 +46,5 @@ pub mod OpeningLaws
 pub mod OtherLaws
 pub mod EndedLaws
 pub mod ObjectSteps
+pub mod Facts
+pub mod FactLaws
