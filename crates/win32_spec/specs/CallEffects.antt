@@ -1,22 +1,18 @@
 -- Each call makes one of the changes: the calls that leave handles, lives and kinds alone.
-use Rattle.std.proofs.Common.{◌≡◌, ◌≢◌, ◌⊎◌, inl, inr, ℕ, ◌+◌, ◌-◌, ◌≤◌, ◌<◌, ◌%◌, ◌^◌, Bool, true, false, cond, if◌then◌else◌, nat_eq, nat_lt, List, [], ◌∷◌, ◌++◌, length, Option, Some, None, MatchOption, MatchBool, slice_index, slice_set, slice_get, refl, sym, ap, ◌∙◌, subst, arith, length-append}
-use Rattle.std.proofs.lemmas.Bool.{cases_eq}
-use Rattle.std.proofs.lemmas.Bool.Decides.{nat_tests}
+use Rattle.std.proofs.Common.{◌≡◌, ℕ, ◌+◌, ◌%◌, ◌^◌, Bool, true, false, if◌then◌else◌, nat_eq, nat_lt, List, length, Option, Some, None, MatchOption, MatchBool, slice_index, slice_set, refl, sym, ap, subst}
 use Rattle.std.proofs.lemmas.List.{length-set}
 use Rattle.tty_spec.specs.Terminal.{Terminal}
-use Rattle.w32_base.specs.Part.{KeepsLengths}
 use Rattle.w32_base.specs.declared.call.Call.{Call}
 use Rattle.w32_base.specs.declared.call.Call.TheVariants as call
 use Rattle.w32_base.specs.declared.call.Reply.{Reply}
 use Rattle.script_spec.specs.declared.script.Script.{Script}
-use Rattle.win32_spec.specs.Handles.{handle_of}
-use Rattle.win32_spec.specs.Objects.{EventState, Ownership, Free, Owned, exchanged, added}
-use Rattle.win32_spec.specs.State.{Object, Section, Event, Mutex, Pipe, ProcessObject, TerminalObject, NumberedObject, Process, Win32State}
-use Rattle.win32_spec.specs.Lookup.{is_alive, process_of, object_number, object_of, with_object}
-use Rattle.win32_spec.specs.Named.{named_by, number_or_zero, object_number_by, object_at, object_by, section_named, event_named, mutex_named, pipe_named, process_named, terminal_named, Gives}
-use Rattle.win32_spec.specs.WordCalls.{words_by, word_reply, with_words, after_exchange, after_add, LoadStep, ExchangeStep, AddStep}
-use Rattle.win32_spec.specs.Tame.{HoldsNext, ObjectBecomes, IsTame}
-use Rattle.win32_spec.specs.TameSteps.{tame_same, tame_process, tame_object}
+use Rattle.win32_spec.specs.Objects.{EventState, Ownership, exchanged, added}
+use Rattle.win32_spec.specs.State.{Object, Section, Event, Mutex, Pipe, ProcessObject, TerminalObject, Win32State}
+use Rattle.win32_spec.specs.Lookup.{object_of, with_object}
+use Rattle.win32_spec.specs.Named.{named_by, number_or_zero, object_number_by, object_at, object_by, section_named, event_named, mutex_named, pipe_named, process_named, terminal_named}
+use Rattle.win32_spec.specs.WordCalls.{words_by, after_exchange, after_add, LoadStep, ExchangeStep, AddStep}
+use Rattle.win32_spec.specs.Tame.{ObjectBecomes}
+use Rattle.win32_spec.specs.TameSteps.{tame_same, tame_object}
 use Rattle.win32_spec.specs.Effects.{MayWrite, MayExchange, CallEffect, Changes}
 
 -- a fact by the cases of a test or of what is there

@@ -1,5 +1,5 @@
 -- The kinds of change that a call makes.
-use Rattle.std.specs.Prelude.{◌≡◌, ◌⊎◌, ℕ, ◌+◌, ◌≤◌, true, false, List, [], length, Option, Some, None, slice_get}
+use Rattle.std.specs.Prelude.{◌≡◌, ◌⊎◌, ℕ, true, false, List, Some, slice_get}
 use Rattle.w32_base.specs.declared.call.Call.{Call}
 use Rattle.w32_base.specs.declared.call.Call.TheVariants as call
 use Rattle.w32_base.specs.declared.call.Reply.{Reply}
@@ -7,7 +7,7 @@ use Rattle.w32_base.specs.declared.setup.Program.{Program}
 use Rattle.script_spec.specs.declared.script.Script.{Script}
 use Rattle.win32_spec.specs.Handles.{without_handle}
 use Rattle.win32_spec.specs.State.{Object, Win32State}
-use Rattle.win32_spec.specs.Lookup.{process_of, is_live, object_of, with_handles, IsFresh, IsLowestFreeSlot}
+use Rattle.win32_spec.specs.Lookup.{process_of, is_live, object_of, with_handles, IsLowestFreeSlot}
 use Rattle.win32_spec.specs.Ends.{swept, with_end}
 use Rattle.win32_spec.specs.Named.{handles_by, object_by, process_named, is_full, IsHandled, IsNewObject}
 use Rattle.win32_spec.specs.ProcessCalls.{IsMade}
@@ -38,12 +38,12 @@ IsOnly s x = (b : ℕ) (y : Object) (k : ℕ) → object_of s.objects b ≡ Some
 pub data CallEffect (script : Script) (s : Win32State) (w t : ℕ) (c : Call) (new : Win32State) : Type 0 where
   Changes : IsTame script (MayWrite s w c) (MayExchange c) w t s new → CallEffect script s w t c new
   Opens : (names : ℕ) → IsListed s.objects names → is_full (handles_by s w) 1 ≡ false → (answer : ℕ → Reply) (r : Reply)
-    → IsHandled s s w names answer r new → CallEffect script s w t c new
+      → IsHandled s s w names answer r new → CallEffect script s w t c new
   Adds : (x : Object) → IsObject s.processes x → IsOnly s x → is_full (handles_by s w) 1 ≡ false → (r : Reply)
-    → IsNewObject s w x r new → CallEffect script s w t c new
+      → IsNewObject s w x r new → CallEffect script s w t c new
   AddsPipe : is_full (handles_by s w) 2 ≡ false → (r : Reply) → IsNewPipe s w r new → CallEffect script s w t c new
   Makes : (slot program_no : ℕ) (program : Program) (list : List ℕ) (r : Reply)
-    → slice_get script.setup.programs program_no ≡ Some program → IsLowestFreeSlot script.setup.limits.slots s.processes slot
-    → is_full (handles_by s w) 1 ≡ false → IsMade s w slot program_no program list r new → CallEffect script s w t c new
+      → slice_get script.setup.programs program_no ≡ Some program → IsLowestFreeSlot script.setup.limits.slots s.processes slot
+      → is_full (handles_by s w) 1 ≡ false → IsMade s w slot program_no program list r new → CallEffect script s w t c new
   Closes : (h : ℕ) → new ≡ swept (with_handles s w (without_handle (handles_by s w) h)) → CallEffect script s w t c new
   Ends : (v code : ℕ) → is_live (process_of s.processes v) ≡ true → new ≡ with_end s v code → CallEffect script s w t c new

@@ -1,22 +1,19 @@
 -- A process that has ended stays as it is while its object is listed, and never lives again.
-use Rattle.std.proofs.Common.{◌≡◌, ◌≢◌, ◌⊎◌, inl, inr, ℕ, ◌+◌, ◌≤◌, ◌<◌, Bool, true, false, ◌||◌, List, Option, Some, None, refl, sym, ap, ◌∙◌, subst, arith}
-use Rattle.std.proofs.lemmas.Bool.{cases_eq}
+use Rattle.std.proofs.Common.{◌≡◌, ◌≢◌, ◌⊎◌, inl, inr, ℕ, ◌+◌, ◌≤◌, ◌<◌, Bool, true, false, List, Option, Some, None, refl, sym, ap, ◌∙◌, subst, arith}
 use Rattle.w32_base.specs.declared.call.Call.{Call}
 use Rattle.script_spec.specs.declared.script.Script.{Script}
 use Rattle.win32_spec.specs.Handles.{Handle, with_handle, without_handle, listed_handles}
-use Rattle.win32_spec.specs.State.{NumberedObject, Process, Win32State}
+use Rattle.win32_spec.specs.State.{Process, Win32State}
 use Rattle.win32_spec.specs.Lookup.{is_alive, process_of, is_live, change_process, add_process, with_handles}
-use Rattle.win32_spec.specs.Ends.{is_process_held, held_objects, kept_processes, swept, ended_process, with_ended, with_end}
+use Rattle.win32_spec.specs.Ends.{is_process_held, held_objects, kept_processes, swept, ended_process, with_ended}
 use Rattle.win32_spec.specs.Making.{new_process}
 use Rattle.win32_spec.specs.Named.{handles_by}
-use Rattle.win32_spec.specs.WellFormed.{AreRisingProcesses, IsFormed, IsWellFormed}
+use Rattle.win32_spec.specs.WellFormed.{AreRisingProcesses, IsWellFormed}
 use Rattle.win32_spec.specs.LookupLaws.{same_some, not_none, or_right, process_of-change_other, process_of-add_kept, process_of-add_other, rising-change_process}
 use Rattle.win32_spec.specs.HeldLaws.{kept_process, kept_process-stays}
-use Rattle.win32_spec.specs.FormedLaws.{live_found, found_live}
-use Rattle.win32_spec.specs.Tame.{Both, ProcessBecomes, IsTame}
+use Rattle.win32_spec.specs.Tame.{ProcessBecomes}
 use Rattle.win32_spec.specs.TameLaws.{both_back, both_forth}
-use Rattle.win32_spec.specs.OtherLaws.{other-effect}
-use Rattle.win32_spec.specs.Effects.{MayWrite, MayExchange, CallEffect, Changes, Opens, Adds, AddsPipe, Makes, Closes, Ends}
+use Rattle.win32_spec.specs.Effects.{MayWrite, CallEffect, Changes, Opens, Adds, AddsPipe, Makes, Closes, Ends}
 
 -- what there is of an ended process in a state: it stands there as it was, or neither it nor its object is listed
 abbrev pub StaysEnded : Win32State → ℕ → Process → Type 0
@@ -33,6 +30,7 @@ swept-ended s v p rising e dead = by_test (is_process_held (held_objects s.proce
         let both = kept_process (held_objects s.processes s.objects) 1 s.next s.processes v q rising f in
         let same : q ≡ p = same_some (process_of s.processes v) q p both.0 e in
         let keep : false ≡ true = rw (ap (λ (x : Process). is_alive x.life) same ∙ dead, g) at both.1 in absurd (cc)
+
     by_test : (b : Bool) → is_process_held (held_objects s.processes s.objects) v ≡ b → StaysEnded (swept s) v p
     by_test true f =
         inl (kept_process-stays (held_objects s.processes s.objects) s.processes v p e
@@ -51,7 +49,6 @@ swept-none s v rising e = by_answer (process_of (kept_processes (held_objects s.
 
 module _ (script : Script) (s : Win32State) (w t : ℕ) (c : Call) (new : Win32State) (h : IsWellFormed script s)
     (live : is_live (process_of s.processes w) ≡ true) (v : ℕ) where
-
   -- handles of process w alone are others
   handles_aside : (ps : List Process) (hs : List Handle) → v ≢ w
       → process_of (change_process w (λ x. record x { handles = hs }) ps) v ≡ process_of ps v
@@ -105,7 +102,7 @@ module _ (script : Script) (s : Win32State) (w t : ℕ) (c : Call) (new : Win32S
       by_answer None f = refl
       by_answer (Some q) f =
           let r = both_back (ProcessBecomes script (MayWrite s w c v) (v ≡ w)) (process_of s.processes v) (process_of new.processes v) q
-              (tame.processes.process v) f in absurd (not_none (process_of s.processes v) r.0 r.1 e)
+          (tame.processes.process v) f in absurd (not_none (process_of s.processes v) r.0 r.1 e)
   none-effect e below (Opens names listed room answer r handled) =
       subst (λ (n : Win32State). process_of n.processes v ≡ None) (sym handled.after)
       (handles_aside s.processes (with_handle (handles_by s w) handled.handle names) (not_there e) ∙ e)
@@ -139,7 +136,7 @@ module _ (script : Script) (s : Win32State) (w t : ℕ) (c : Call) (new : Win32S
     where
       by_answer : (o : Option Process) → process_of s.processes v ≡ o → is_live o ≡ false → is_live (process_of new.processes v) ≡ false
       by_answer None e f = rw (none-effect e below effect) refl
-      by_answer (Some p) e f = elim (ended-effect p e f effect) [ | inl g ↦ rw g f | inr g ↦ rw g.0 refl ]
+      by_answer (Some p) e f = elim (ended-effect p e f effect) [ inl g ↦ rw g f | inr g ↦ rw g.0 refl ]
 
 -- numbers are never given again
 pub next-effect : (script : Script) (s : Win32State) (w t : ℕ) (c : Call) (new : Win32State) → CallEffect script s w t c new → s.next ≤ new.next

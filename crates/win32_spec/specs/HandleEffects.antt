@@ -1,43 +1,30 @@
 -- Each call makes one of the changes: `open`, `dup`, `close` and `create`.
-use Rattle.std.proofs.Common.{◌≡◌, ◌≢◌, ◌⊎◌, inl, inr, ℕ, ◌+◌, ◌≤◌, ◌<◌, Bool, true, false, ◌&&◌, not, if◌then◌else◌, nat_eq, nat_le, List, [], ◌∷◌, length, take, drop, Option, Some, None, MatchOption, MatchBool, slice_get, refl, sym, ap, ◌∙◌, subst, arith, length-take}
-use Rattle.std.proofs.lemmas.Bool.{cases_eq, leb-true}
-use Rattle.tty_spec.specs.Terminal.{Terminal}
-use Rattle.tty_spec.specs.Discipline.{Taken, after_key, after_take, taking}
-use Rattle.w32_base.specs.Part.{KeepsLengths}
+use Rattle.std.proofs.Common.{◌≡◌, inl, inr, ℕ, ◌+◌, Bool, true, false, if◌then◌else◌, List, [], ◌∷◌, Some, None, slice_get, refl, sym, ap, ◌∙◌, arith}
+use Rattle.std.proofs.lemmas.Bool.{cases_eq}
 use Rattle.w32_base.specs.declared.call.Call.{Call}
 use Rattle.w32_base.specs.declared.call.Call.TheVariants as call
 use Rattle.w32_base.specs.declared.call.Reply.{Reply}
 use Rattle.w32_base.specs.declared.call.Reply.TheVariants as reply
-use Rattle.w32_base.specs.declared.call.Region.TheVariants.{Heap}
-use Rattle.w32_base.specs.declared.call.TtyOp.{TtyOp}
-use Rattle.w32_base.specs.declared.call.TtyOp.TheVariants as tty
-use Rattle.w32_base.specs.declared.own.Own.{Own}
 use Rattle.script_spec.specs.declared.script.Script.{Script}
 use Rattle.win32_spec.specs.Handles.{handle_of}
-use Rattle.win32_spec.specs.Regions.{written, is_inside}
-use Rattle.win32_spec.specs.State.{Object, Section, Event, Mutex, Pipe, ProcessObject, TerminalObject, NumberedObject, Process, Win32State}
-use Rattle.win32_spec.specs.Lookup.{is_alive, process_of, is_live, memory_by, object_number, object_of, change_process, change_object, with_object}
+use Rattle.win32_spec.specs.State.{Object, Section, Event, Mutex, Pipe, ProcessObject, TerminalObject, NumberedObject, Win32State}
+use Rattle.win32_spec.specs.Lookup.{process_of, is_live, object_of}
 use Rattle.win32_spec.specs.Ends.{is_object_of}
-use Rattle.win32_spec.specs.Named.{handles_by, named_by, object_number_by, object_by, process_named, terminal_named, is_full, has_absent, Gives, GetsHandle, MakesObject}
-use Rattle.win32_spec.specs.ProcessCalls.{live_process, process_object, OpenStep, MakesIn, CreateStep}
+use Rattle.win32_spec.specs.Named.{handles_by, named_by, object_by, process_named, is_full, has_absent, GetsHandle}
+use Rattle.win32_spec.specs.ProcessCalls.{live_process, process_object, OpenStep, CreateStep}
 use Rattle.win32_spec.specs.HandleCalls.{DupStep, CloseStep}
-use Rattle.win32_spec.specs.MemoryCalls.{has_range}
-use Rattle.win32_spec.specs.TerminalCalls.{KeyStep, is_buffer, is_background, TakeStep, WriteStep, ChangeStep, OpStep, TtyStep, with_terminal}
-use Rattle.win32_spec.specs.WellFormed.{AreRisingObjects, has_ends, FitsEnd, IsListed, only_number, IsFormed}
-use Rattle.win32_spec.specs.LookupLaws.{same, differs, same_some, not_none, and_true}
+use Rattle.win32_spec.specs.WellFormed.{AreRisingObjects, IsListed, only_number, IsFormed}
+use Rattle.win32_spec.specs.LookupLaws.{same, differs}
 use Rattle.win32_spec.specs.ObjectLaws.{rising_objects-bound}
 use Rattle.win32_spec.specs.FormedLaws.{of_live, to_listed, live_found}
-use Rattle.win32_spec.specs.Tame.{ProcessBecomes, ObjectBecomes, IsTame}
-use Rattle.win32_spec.specs.TameSteps.{processes_same, processes_change, objects_change}
-use Rattle.win32_spec.specs.Effects.{MayWrite, MayExchange, CallEffect, Changes, Opens, Makes, Closes}
-use Rattle.win32_spec.specs.CallEffects.{by_bool, by_option, object_by-found, is_terminal, unchanged, object_changes}
-use Rattle.win32_spec.specs.ThreadEffects.{live_of-found, memory_becomes}
-use Rattle.win32_spec.specs.MemoryEffects.{length-written, inside, memory_by-found}
+use Rattle.win32_spec.specs.Effects.{CallEffect, Opens, Makes, Closes}
+use Rattle.win32_spec.specs.CallEffects.{by_bool, by_option, unchanged}
+use Rattle.win32_spec.specs.ThreadEffects.{live_of-found}
 use Rattle.win32_spec.specs.ObjectEffects.{made_effect}
 
 -- the object of process v, by the test and by its number
 pub is_its_object : (x : Object) (v : ℕ) → is_object_of x v ≡ true → x ≡ ProcessObject v
-is_its_object (ProcessObject u) v t = elim (cases_eq u v) [ | inl n ↦ ap ProcessObject n | inr d ↦ let s = differs u v d in absurd (cc) ]
+is_its_object (ProcessObject u) v t = elim (cases_eq u v) [ inl n ↦ ap ProcessObject n | inr d ↦ let s = differs u v d in absurd (cc) ]
 is_its_object (Section words) v t = absurd (cc)
 is_its_object (Event e) v t = absurd (cc)
 is_its_object (Mutex owner) v t = absurd (cc)
@@ -129,4 +116,3 @@ create_effect script s w t program_no list r new step =
           by_bool (is_full (handles_by s w) 1) (λ e m. unchanged script s w t (call.Create program_no list) new m.1)
           (λ room m. Makes makes.slot program_no program list r listed makes.lowest room m) makes.made
     ]) m) step
-

@@ -1,19 +1,19 @@
 -- Each call leaves a well-formed state well formed.
-use Rattle.std.proofs.Common.{◌≡◌, ◌≢◌, ◌⊎◌, inl, inr, ℕ, ◌+◌, ◌≤◌, ◌<◌, Bool, true, false, List, [], ◌∷◌, length, Option, Some, None, slice_get, refl, sym, ap, ◌∙◌, subst, arith}
+use Rattle.std.proofs.Common.{◌≡◌, ◌≢◌, inl, inr, ℕ, ◌+◌, ◌≤◌, true, false, List, [], length, Some, None, slice_get, sym, ap, ◌∙◌, subst, arith}
 use Rattle.std.proofs.lemmas.Bool.{cases_eq}
 use Rattle.w32_base.specs.declared.call.Call.{Call}
 use Rattle.w32_base.specs.declared.call.Reply.{Reply}
 use Rattle.w32_base.specs.declared.setup.Program.{Program}
 use Rattle.script_spec.specs.declared.script.Script.{Script}
-use Rattle.win32_spec.specs.Handles.{Handle, handle_of, with_handle, without_handle, listed_handles, AreRisingFrom, IsLowestFree}
-use Rattle.win32_spec.specs.State.{Object, Pipe, ProcessObject, NumberedObject, Process, Win32State}
-use Rattle.win32_spec.specs.Lookup.{is_alive, process_of, is_live, object_number, object_of, add_process, add_object, with_handles, with_new_object, IsFresh, IsLowestFreeSlot}
-use Rattle.win32_spec.specs.Ends.{is_object_held, is_process_held, swept, with_ended, with_end}
+use Rattle.win32_spec.specs.Handles.{Handle, handle_of, with_handle, without_handle, listed_handles, AreRisingFrom}
+use Rattle.win32_spec.specs.State.{Pipe, ProcessObject, NumberedObject, Process, Win32State}
+use Rattle.win32_spec.specs.Lookup.{is_alive, process_of, is_live, object_number, object_of, add_process, add_object, with_handles, with_new_object, IsLowestFreeSlot}
+use Rattle.win32_spec.specs.Ends.{is_object_held, swept, with_ended, with_end}
 use Rattle.win32_spec.specs.Named.{handles_of, handles_by, is_full}
 use Rattle.win32_spec.specs.Making.{new_process}
 use Rattle.win32_spec.specs.ProcessCalls.{with_made, IsMade}
 use Rattle.win32_spec.specs.ObjectCalls.{IsNewPipe}
-use Rattle.win32_spec.specs.WellFormed.{IsListed, IsLiveProcess, IsObject, only_number, IsFormed, IsWellFormed}
+use Rattle.win32_spec.specs.WellFormed.{IsListed, IsLiveProcess, IsWellFormed}
 use Rattle.win32_spec.specs.LookupLaws.{same_some, not_none, process_of-add_kept, process_of-add_new, process_of-add_other, rising-absent}
 use Rattle.win32_spec.specs.ObjectLaws.{object_of-add_new, object_of-add_other}
 use Rattle.win32_spec.specs.HandleLaws.{handle_of-with_same, handle_of-with_other, handle_of-without_same, handle_of-without_other, rising-with, rising-without, rising-listed, listed_handle, has_room, lowest-fits, length-with}
@@ -27,7 +27,6 @@ use Rattle.win32_spec.specs.EffectLaws.{wellformed-more, wellformed-opened, well
 
 module _ (script : Script) (s : Win32State) (w : ℕ) (p : Process) (h : IsWellFormed script s) (found : process_of s.processes w ≡ Some p)
     (alive : is_alive p.life ≡ true) where
-
   caller_handles : handles_by s w ≡ p.handles
   caller_handles = ap handles_of found
 
@@ -53,7 +52,6 @@ module _ (script : Script) (s : Win32State) (w : ℕ) (p : Process) (h : IsWellF
 
   -- a new pipe
   module _ (room : is_full (handles_by s w) 2 ≡ false) (r : Reply) (new : Win32State) (pipe : IsNewPipe s w r new) where
-
     abbrev one : List Handle
     one = with_handle (handles_by s w) pipe.read_end pipe.number
 
@@ -88,21 +86,21 @@ module _ (script : Script) (s : Win32State) (w : ℕ) (p : Process) (h : IsWellF
     more_listed n l =
         let at = from_listed s.objects n l in
         let apart = λ (m : object_number n ≡ pipe.number).
-            not_none (object_of s.objects pipe.number) at.0 (ap (object_of s.objects) (sym m) ∙ at.1) pipe.fresh.free in
+        not_none (object_of s.objects pipe.number) at.0 (ap (object_of s.objects) (sym m) ∙ at.1) pipe.fresh.free in
         to_listed objects n at.0 (object_of-add_other pipe.number (Pipe []) s.objects (object_number n) apart ∙ at.1) at.2
 
     two_naming : (k n : ℕ) → handle_of two k ≡ Some n → IsListed objects n
     two_naming k n e = elim (cases_eq k pipe.write_end) [
       | inl m ↦
           let f : n ≡ pipe.number + 1 = same_some (handle_of two pipe.write_end) n (pipe.number + 1) (ap (handle_of two) (sym m) ∙ e)
-              (handle_of-with_same one pipe.write_end (pipe.number + 1) pipe.next_lowest.free) in
+          (handle_of-with_same one pipe.write_end (pipe.number + 1) pipe.next_lowest.free) in
           pipe_listed n (ap object_number f ∙ write_number)
       | inr d ↦
           let e1 : handle_of one k ≡ Some n = sym (handle_of-with_other one pipe.write_end (pipe.number + 1) k d) ∙ e in
           elim (cases_eq k pipe.read_end) [
             | inl m ↦
                 let f : n ≡ pipe.number = same_some (handle_of one pipe.read_end) n pipe.number (ap (handle_of one) (sym m) ∙ e1)
-                    (handle_of-with_same (handles_by s w) pipe.read_end pipe.number pipe.lowest.free) in
+                (handle_of-with_same (handles_by s w) pipe.read_end pipe.number pipe.lowest.free) in
                 pipe_listed n (ap object_number f ∙ pipe.fresh.even)
             | inr f ↦ more_listed n (caller_naming k n (sym (handle_of-with_other (handles_by s w) pipe.read_end pipe.number k f) ∙ e1))
           ]
@@ -112,7 +110,7 @@ module _ (script : Script) (s : Win32State) (w : ℕ) (p : Process) (h : IsWellF
     two_more k n e =
         let old : handle_of (handles_by s w) k ≡ Some n = ap (λ hs. handle_of hs k) caller_handles ∙ e in
         let apart = λ (m : k ≡ pipe.read_end). not_none (handle_of (handles_by s w) pipe.read_end) n
-            (ap (handle_of (handles_by s w)) (sym m) ∙ old) pipe.lowest.free in
+        (ap (handle_of (handles_by s w)) (sym m) ∙ old) pipe.lowest.free in
         let first : handle_of one k ≡ Some n = handle_of-with_other (handles_by s w) pipe.read_end pipe.number k apart ∙ old in
         let again = λ (m : k ≡ pipe.write_end). not_none (handle_of one pipe.write_end) n (ap (handle_of one) (sym m) ∙ first) pipe.next_lowest.free in
         handle_of-with_other one pipe.write_end (pipe.number + 1) k again ∙ first
@@ -129,21 +127,24 @@ module _ (script : Script) (s : Win32State) (w : ℕ) (p : Process) (h : IsWellF
         (formed-with_new_object script s pipe.number (Pipe []) h.formed pipe.fresh (omega arith) (λ b y k e f g. absurd (cc)))
         found alive two_rising two_naming two_more
         (λ a y e. elim (cases_eq a pipe.number) [
-          | inl m ↦ inr (pipe.read_end, pipe.number,
-              handle_of-with_other one pipe.write_end (pipe.number + 1) pipe.read_end read_apart
-              ∙ handle_of-with_same (handles_by s w) pipe.read_end pipe.number pipe.lowest.free, pipe.fresh.even ∙ sym m)
+          | inl m ↦ inr (
+            pipe.read_end,
+            pipe.number,
+            handle_of-with_other one pipe.write_end (pipe.number + 1) pipe.read_end read_apart
+                ∙ handle_of-with_same (handles_by s w) pipe.read_end pipe.number pipe.lowest.free,
+            pipe.fresh.even ∙ sym m,
+          )
           | inr d ↦ inl (h.object_held a y (sym (object_of-add_other pipe.number (Pipe []) s.objects a d) ∙ e))
         ])
         (λ v q e dead. let at = process_held-by 0 s.objects v h.formed.objects (h.process_held v q e dead) in
         let apart = λ (m : at.0 ≡ pipe.number).
-            not_none (object_of s.objects pipe.number) (ProcessObject v) (ap (object_of s.objects) (sym m) ∙ at.1) pipe.fresh.free in
+        not_none (object_of s.objects pipe.number) (ProcessObject v) (ap (object_of s.objects) (sym m) ∙ at.1) pipe.fresh.free in
         is-process_held objects v at.0 (object_of-add_other pipe.number (Pipe []) s.objects at.0 apart ∙ at.1)))
 
   -- a new process
   module _ (slot program_no : ℕ) (program : Program) (list : List ℕ) (r : Reply) (new : Win32State)
       (listed : slice_get script.setup.programs program_no ≡ Some program) (lowest_slot : IsLowestFreeSlot script.setup.limits.slots s.processes slot)
       (room : is_full (handles_by s w) 1 ≡ false) (made : IsMade s w slot program_no program list r new) where
-
     abbrev its_process : Process
     its_process = new_process s.next slot program_no program 1 (listed_handles (handles_by s w) list)
 
@@ -160,7 +161,7 @@ module _ (script : Script) (s : Win32State) (w : ℕ) (p : Process) (h : IsWellF
     still_listed n l =
         let at = from_listed s.objects n l in
         let apart = λ (m : object_number n ≡ made.number).
-            not_none (object_of s.objects made.number) at.0 (ap (object_of s.objects) (sym m) ∙ at.1) made.fresh.free in
+        not_none (object_of s.objects made.number) at.0 (ap (object_of s.objects) (sym m) ∙ at.1) made.fresh.free in
         to_listed all_objects n at.0 (object_of-add_other made.number (ProcessObject s.next) s.objects (object_number n) apart ∙ at.1) at.2
 
     new_listed : IsListed all_objects made.number
@@ -177,7 +178,7 @@ module _ (script : Script) (s : Win32State) (w : ℕ) (p : Process) (h : IsWellF
     all_naming k n e = elim (cases_eq k made.handled.handle) [
       | inl m ↦
           let f : n ≡ made.number = same_some (handle_of all_handles made.handled.handle) n made.number (ap (handle_of all_handles) (sym m) ∙ e)
-              (handle_of-with_same (handles_by s w) made.handled.handle made.number made.handled.lowest.free) in
+          (handle_of-with_same (handles_by s w) made.handled.handle made.number made.handled.lowest.free) in
           subst (IsListed all_objects) (sym f) new_listed
       | inr d ↦ still_listed n (caller_naming k n (sym (handle_of-with_other (handles_by s w) made.handled.handle made.number k d) ∙ e))
     ]
@@ -186,13 +187,20 @@ module _ (script : Script) (s : Win32State) (w : ℕ) (p : Process) (h : IsWellF
     all_more k n e =
         let old : handle_of (handles_by s w) k ≡ Some n = ap (λ hs. handle_of hs k) caller_handles ∙ e in
         let apart = λ (m : k ≡ made.handled.handle). not_none (handle_of (handles_by s w) made.handled.handle) n
-            (ap (handle_of (handles_by s w)) (sym m) ∙ old) made.handled.lowest.free in
+        (ap (handle_of (handles_by s w)) (sym m) ∙ old) made.handled.lowest.free in
         handle_of-with_other (handles_by s w) made.handled.handle made.number k apart ∙ old
 
     still_held : (o : ℕ) → IsHeldBy s.processes o → is_object_held all_processes o ≡ true
-    still_held o at = is-held all_processes o (record { number = at.number; process = at.process;
+    still_held o at = is-held all_processes o (record {
+      number = at.number;
+      process = at.process;
       found = process_of-add_kept its_process s.processes at.number at.process at.found;
-      alive = at.alive; handle = at.handle; names = at.names; named = at.named; object = at.object })
+      alive = at.alive;
+      handle = at.handle;
+      names = at.names;
+      named = at.named;
+      object = at.object;
+    })
 
     pub wellformed-made : IsWellFormed script new
     wellformed-made =
@@ -203,8 +211,12 @@ module _ (script : Script) (s : Win32State) (w : ℕ) (p : Process) (h : IsWellF
         (λ k n e. caller_naming k n (listed_handle 1 (handles_by s w) list k n caller_rising e)))
         (process_of-add_kept its_process s.processes w p found) alive all_rising all_naming all_more
         (λ a y e. elim (cases_eq a made.number) [
-          | inl m ↦ inr (made.handled.handle, made.number,
-              handle_of-with_same (handles_by s w) made.handled.handle made.number made.handled.lowest.free, made.fresh.even ∙ sym m)
+          | inl m ↦ inr (
+            made.handled.handle,
+            made.number,
+            handle_of-with_same (handles_by s w) made.handled.handle made.number made.handled.lowest.free,
+            made.fresh.even ∙ sym m,
+          )
           | inr d ↦ inl (still_held a (held-by 1 s.next s.processes a h.formed.processes (have_rising script s h.formed)
               (h.object_held a y (sym (object_of-add_other made.number (ProcessObject s.next) s.objects a d) ∙ e))))
         ])
@@ -216,9 +228,9 @@ module _ (script : Script) (s : Win32State) (w : ℕ) (p : Process) (h : IsWellF
               let a : is_alive q.life ≡ true = ap (λ (x : Process). is_alive x.life) g in cc)
           | inr d ↦
               let at = process_held-by 0 s.objects v h.formed.objects
-                  (h.process_held v q (sym (process_of-add_other its_process s.processes v d) ∙ e) dead) in
+              (h.process_held v q (sym (process_of-add_other its_process s.processes v d) ∙ e) dead) in
               let apart = λ (m : at.0 ≡ made.number).
-                  not_none (object_of s.objects made.number) (ProcessObject v) (ap (object_of s.objects) (sym m) ∙ at.1) made.fresh.free in
+              not_none (object_of s.objects made.number) (ProcessObject v) (ap (object_of s.objects) (sym m) ∙ at.1) made.fresh.free in
               is-process_held all_objects v at.0 (object_of-add_other made.number (ProcessObject s.next) s.objects at.0 apart ∙ at.1)
         ]))
 

@@ -48,3 +48,4 @@ pub mod EndedLaws
 pub mod ObjectSteps
 pub mod Facts
 pub mod FactLaws
+pub mod StableFacts

@@ -1,17 +1,17 @@
 -- A state with one more process, as it is when it is made.
-use Rattle.std.proofs.Common.{◌≡◌, ◌≢◌, ◌⊎◌, inl, inr, ℕ, zero, suc, ◌+◌, ◌≤◌, ◌<◌, Bool, true, false, List, [], ◌∷◌, length, replicate, Option, Some, None, slice_get, refl, sym, ap, ◌∙◌, subst, arith}
+use Rattle.std.proofs.Common.{◌≡◌, ◌≢◌, ◌⊎◌, inl, inr, ℕ, zero, suc, ◌+◌, ◌≤◌, List, replicate, Some, None, slice_get, refl, sym, ap, ◌∙◌, subst, arith}
 use Rattle.std.proofs.lemmas.Bool.{cases_eq}
 use Rattle.std.proofs.lemmas.List.{length-replicate}
 use Rattle.w32_base.specs.declared.setup.Program.{Program}
 use Rattle.script_spec.specs.declared.script.Script.{Script}
 use Rattle.vm_spec.specs.WordLaws.{length-with_word}
 use Rattle.win32_spec.specs.Handles.{Handle, handle_of, AreRisingFrom}
-use Rattle.win32_spec.specs.State.{Object, ProcessObject, NumberedObject, Process, Win32State}
-use Rattle.win32_spec.specs.Lookup.{is_alive, process_of, process_in, object_number, object_of, add_process, add_object, IsFresh, IsLowestFreeSlot}
+use Rattle.win32_spec.specs.State.{Object, ProcessObject, Process, Win32State}
+use Rattle.win32_spec.specs.Lookup.{process_of, object_number, object_of, add_process, add_object, IsFresh, IsLowestFreeSlot}
 use Rattle.win32_spec.specs.Making.{threads_of, new_memory, new_threads, new_process}
 use Rattle.win32_spec.specs.ProcessCalls.{with_made}
 use Rattle.win32_spec.specs.WellFormed.{AreThreads, HasSizes, IsListed, IsLiveProcess, IsProcessBy, IsObject, only_number, IsFormed}
-use Rattle.win32_spec.specs.LookupLaws.{same_some, not_none, process_of-add_kept, process_of-add_new, process_of-add_other, process_in-free, rising-bounds, rising-absent, rising-add_process}
+use Rattle.win32_spec.specs.LookupLaws.{same_some, not_none, process_of-add_kept, process_of-add_new, process_of-add_other, process_in-free, rising-absent, rising-add_process}
 use Rattle.win32_spec.specs.ObjectLaws.{object_of-add_new, object_of-add_other, rising-add_object}
 use Rattle.win32_spec.specs.FormedLaws.{with_objects, to_listed, from_listed, object_over}
 use Rattle.win32_spec.specs.HandleEffects.{only_process}
@@ -35,7 +35,6 @@ module _ (script : Script) (s : Win32State) (o slot program_no : ℕ) (program :
     (fresh : IsFresh s o) (listed : slice_get script.setup.programs program_no ≡ Some program)
     (lowest : IsLowestFreeSlot script.setup.limits.slots s.processes slot) (rising : AreRisingFrom 1 hs)
     (naming : (k names : ℕ) → handle_of hs k ≡ Some names → IsListed s.objects names) where
-
   made_listed : (names : ℕ) → IsListed s.objects names → IsListed (add_object o (ProcessObject s.next) s.objects) names
   made_listed names l =
       let at = from_listed s.objects names l in
@@ -66,10 +65,13 @@ module _ (script : Script) (s : Win32State) (o slot program_no : ℕ) (program :
       → ((v ≢ s.next) × (process_of s.processes v ≡ Some q)) ⊎ ((v ≡ s.next) × (q ≡ new_process s.next slot program_no program 1 hs))
   made_which v q e =
       elim (cases_eq v s.next) [
-        | inl n ↦ inr (n, same_some (process_of (add_process (new_process s.next slot program_no program 1 hs) s.processes) s.next) q
-            (new_process s.next slot program_no program 1 hs)
-            (ap (λ k. process_of (add_process (new_process s.next slot program_no program 1 hs) s.processes) k) (sym n) ∙ e)
-            (process_of-add_new (new_process s.next slot program_no program 1 hs) s.processes made_free))
+        | inl n ↦ inr (
+          n,
+          same_some (process_of (add_process (new_process s.next slot program_no program 1 hs) s.processes) s.next) q
+              (new_process s.next slot program_no program 1 hs)
+              (ap (λ k. process_of (add_process (new_process s.next slot program_no program 1 hs) s.processes) k) (sym n) ∙ e)
+              (process_of-add_new (new_process s.next slot program_no program 1 hs) s.processes made_free),
+        )
         | inr d ↦ inl (d, sym (process_of-add_other (new_process s.next slot program_no program 1 hs) s.processes v d) ∙ e)
       ]
 
@@ -77,9 +79,12 @@ module _ (script : Script) (s : Win32State) (o slot program_no : ℕ) (program :
       → ((a ≢ o) × (object_of s.objects a ≡ Some y)) ⊎ ((a ≡ o) × (y ≡ ProcessObject s.next))
   object_which a y e =
       elim (cases_eq a o) [
-        | inl n ↦ inr (n, same_some (object_of (add_object o (ProcessObject s.next) s.objects) o) y (ProcessObject s.next)
-            (ap (λ k. object_of (add_object o (ProcessObject s.next) s.objects) k) (sym n) ∙ e)
-            (object_of-add_new o (ProcessObject s.next) s.objects fresh.free))
+        | inl n ↦ inr (
+          n,
+          same_some (object_of (add_object o (ProcessObject s.next) s.objects) o) y (ProcessObject s.next)
+              (ap (λ k. object_of (add_object o (ProcessObject s.next) s.objects) k) (sym n) ∙ e)
+              (object_of-add_new o (ProcessObject s.next) s.objects fresh.free),
+        )
         | inr d ↦ inl (d, sym (object_of-add_other o (ProcessObject s.next) s.objects a d) ∙ e)
       ]
 

@@ -1,7 +1,6 @@
 -- Each call makes one of the changes: the calls on memory.
-use Rattle.std.proofs.Common.{◌≡◌, ◌≢◌, ◌⊎◌, inl, inr, ℕ, ◌+◌, ◌-◌, ◌≤◌, ◌<◌, Bool, true, false, ◌&&◌, if◌then◌else◌, nat_eq, nat_lt, nat_le, List, [], ◌∷◌, ◌++◌, length, take, drop, Option, Some, None, MatchOption, MatchBool, slice_get, All, IsTrue, refl, sym, ap, ◌∙◌, subst, arith, length-append, length-take, length-drop}
-use Rattle.std.proofs.lemmas.Bool.{cases_eq, eqb-true, leb-true}
-use Rattle.std.proofs.lemmas.Bool.Decides.{nat_tests}
+use Rattle.std.proofs.Common.{◌≡◌, ◌⊎◌, inl, inr, ℕ, ◌+◌, ◌≤◌, true, ◌&&◌, nat_eq, nat_le, List, length, Some, slice_get, All, IsTrue, refl, sym, ap, ◌∙◌, subst, arith, length-append, length-take, length-drop}
+use Rattle.std.proofs.lemmas.Bool.{eqb-true, leb-true}
 use Rattle.w32_base.specs.Part.{KeepsLengths}
 use Rattle.w32_base.specs.declared.call.Call.{Call}
 use Rattle.w32_base.specs.declared.call.Call.TheVariants as call
@@ -10,29 +9,25 @@ use Rattle.w32_base.specs.declared.call.Region.TheVariants.{Dat, Heap, Stack, Cy
 use Rattle.w32_base.specs.declared.call.Reply.{Reply}
 use Rattle.w32_base.specs.declared.own.Own.{Own}
 use Rattle.w32_base.specs.declared.setup.Program.{Program}
-use Rattle.w32_base.specs.declared.setup.Module.{Module}
 use Rattle.script_spec.specs.declared.script.Script.{Script}
 use Rattle.vm_spec.specs.SizeLaws.{writes_register}
 use Rattle.win32_spec.specs.Regions.{region_of, with_region, is_inside, range_of, written}
-use Rattle.win32_spec.specs.State.{Thread, PlacedModule, Process, Win32State}
-use Rattle.win32_spec.specs.Lookup.{is_alive, process_of, is_live, memory_of, memory_by, thread_in, change_thread, with_process, with_thread, with_own}
-use Rattle.win32_spec.specs.Named.{object_by, process_named, Gives}
-use Rattle.win32_spec.specs.ProcessCalls.{live_of, live_process, resumed, suspended_more, CountStep, ResumeStep, SuspendStep}
+use Rattle.win32_spec.specs.State.{Process, Win32State}
+use Rattle.win32_spec.specs.Lookup.{is_alive, process_of, is_live, memory_of, memory_by, with_own}
+use Rattle.win32_spec.specs.Named.{object_by, process_named}
+use Rattle.win32_spec.specs.ProcessCalls.{live_process}
 use Rattle.win32_spec.specs.MemoryCalls.{has_range, copied, is_copyable, ReadMemoryStep, WriteMemoryStep}
-use Rattle.win32_spec.specs.WellFormed.{AreThreads}
 use Rattle.win32_spec.specs.LookupLaws.{and_true, or_true, same_some}
-use Rattle.win32_spec.specs.Tame.{ProcessBecomes, IsTame}
-use Rattle.win32_spec.specs.TameSteps.{lengths-same, tame_process}
+use Rattle.win32_spec.specs.TameSteps.{tame_process}
 use Rattle.win32_spec.specs.Effects.{MayWrite, MayExchange, CallEffect, Changes}
 use Rattle.win32_spec.specs.CallEffects.{by_bool, by_option, unchanged}
-
 use Rattle.win32_spec.specs.ThreadEffects.{live_of-found, memory_becomes}
 
 -- Bytes that are written into a region leave its length.
 pub length-written : (bytes : List ℕ) (place : ℕ) (new : List ℕ) → (length new ≡ 0) ⊎ (place + length new ≤ length bytes)
     → length (written bytes place new) ≡ length bytes
 length-written bytes place new h =
-    simp (length-append, length-take, length-drop) (elim h [ | inl e ↦ omega arith | inr l ↦ omega arith ])
+    simp (length-append, length-take, length-drop) (elim h [ inl e ↦ omega arith | inr l ↦ omega arith ])
 
 pub inside : (size place count : ℕ) → is_inside size place count ≡ true → (count ≡ 0) ⊎ (place + count ≤ size)
 inside size place count e =
@@ -43,7 +38,7 @@ inside size place count e =
 
 length-range : (bytes : List ℕ) (place count : ℕ) → is_inside (length bytes) place count ≡ true → length (range_of bytes place count) ≡ count
 length-range bytes place count e =
-    simp (length-take, length-drop) (elim (inside (length bytes) place count e) [ | inl z ↦ omega arith | inr l ↦ omega arith ])
+    simp (length-take, length-drop) (elim (inside (length bytes) place count e) [ inl z ↦ omega arith | inr l ↦ omega arith ])
 
 lengths-with_region : (own : Own) (region : Region) (bytes : List ℕ) → length bytes ≡ length (region_of own region)
     → KeepsLengths own (with_region own region bytes)
@@ -60,7 +55,7 @@ lengths-copied from region place count into into_region into_place e f =
     let n = length-range (region_of from region) place count e in
     lengths-with_region into into_region (written (region_of into into_region) into_place (range_of (region_of from region) place count))
     (length-written (region_of into into_region) into_place (range_of (region_of from region) place count)
-    (elim (inside (length (region_of into into_region)) into_place count f) [ | inl z ↦ inl (n ∙ z) | inr l ↦ inr (rw n l) ]))
+    (elim (inside (length (region_of into into_region)) into_place count f) [ inl z ↦ inl (n ∙ z) | inr l ↦ inr (rw n l) ]))
 
 -- other bytes in a live process
 pub own_effect : (script : Script) (s : Win32State) (w t : ℕ) (c : Call) (v : ℕ) (own : Own) (new : Win32State) → MayWrite s w c v
@@ -108,10 +103,11 @@ write_effect script s w t h region place own_region own_place count r new step =
     let found = live_of-found (process_of s.processes v) p e in
     own_effect script s w t (call.WriteMemory h region place own_region own_place count) v
     (copied (memory_by s w) own_region own_place count p.own region place) new (inr named)
-    (λ q f. let same : p ≡ q = same_some (process_of s.processes v) p q found.0 f in
-    (rw (← same) found.1,
-    subst (λ (k : Process). KeepsLengths k.own (copied (memory_by s w) own_region own_place count p.own region place)) same
-    (lengths-copied (memory_by s w) own_region own_place count p.own region place both.1 both.0)))
+    (λ q f. let same : p ≡ q = same_some (process_of s.processes v) p q found.0 f in (
+      rw (← same) found.1,
+      subst (λ (k : Process). KeepsLengths k.own (copied (memory_by s w) own_region own_place count p.own region place)) same
+          (lengths-copied (memory_by s w) own_region own_place count p.own region place both.1 both.0),
+    ))
     m.1)
     (λ fits m. unchanged script s w t (call.WriteMemory h region place own_region own_place count) new m.1) m) m) step
 

@@ -1,21 +1,21 @@
 -- Each call makes one of the changes: the calls on events, mutexes, pipes and waits.
-use Rattle.std.proofs.Common.{◌≡◌, ◌≢◌, ◌⊎◌, inl, inr, ℕ, suc, ◌+◌, ◌≤◌, ◌<◌, Bool, true, false, if◌then◌else◌, nat_eq, nat_lt, List, [], ◌∷◌, ◌++◌, length, Option, Some, None, MatchOption, MatchBool, slice_index, refl, sym, ap, ◌∙◌, subst, arith, length-append}
+use Rattle.std.proofs.Common.{◌≡◌, inl, inr, ℕ, suc, ◌+◌, ◌≤◌, ◌<◌, Bool, true, false, if◌then◌else◌, nat_eq, nat_lt, List, [], ◌∷◌, ◌++◌, length, Option, Some, None, slice_index, refl, arith, length-append}
 use Rattle.std.proofs.lemmas.Bool.Decides.{nat_tests}
 use Rattle.w32_base.specs.declared.call.Call.{Call}
 use Rattle.w32_base.specs.declared.call.Call.TheVariants as call
 use Rattle.w32_base.specs.declared.call.Reply.{Reply}
 use Rattle.script_spec.specs.declared.script.Script.{Script}
 use Rattle.win32_spec.specs.Handles.{Handle, handle_of}
-use Rattle.win32_spec.specs.Objects.{EventState, event_set, event_reset, event_taken, Ownership, Free, Owned, is_owner, PipeState, put_after, get_after, without_first}
-use Rattle.win32_spec.specs.State.{Object, Section, Event, Mutex, Pipe, ProcessObject, TerminalObject, Process, Win32State}
+use Rattle.win32_spec.specs.Objects.{event_set, event_reset, Free, Owned, is_owner, PipeState, put_after, get_after, without_first}
+use Rattle.win32_spec.specs.State.{Object, Section, Event, Mutex, Pipe, ProcessObject, TerminalObject, Win32State}
 use Rattle.win32_spec.specs.Lookup.{process_of, is_live, object_of, with_object}
-use Rattle.win32_spec.specs.Named.{handles_by, named_by, object_number_by, object_at, object_by, event_named, mutex_named, pipe_named, is_full, has_absent, Gives, MakesObject}
+use Rattle.win32_spec.specs.Named.{handles_by, named_by, object_number_by, object_at, object_by, event_named, mutex_named, pipe_named, is_full, has_absent, MakesObject}
 use Rattle.win32_spec.specs.Ready.{is_first_end, is_signalled, is_handle_signalled}
 use Rattle.win32_spec.specs.ObjectCalls.{EventStep, SetStep, ResetStep, MutexStep, ReleaseStep, PipeStep, at_read_end, at_write_end, read_end_by, write_end_by, pipe_by, PutStep, GetStep}
-use Rattle.win32_spec.specs.HandleCalls.{first_signalled, taken_object, TakesObject, WaitStep}
+use Rattle.win32_spec.specs.HandleCalls.{first_signalled, taken_object, WaitStep}
 use Rattle.win32_spec.specs.WellFormed.{only_number, IsObject}
-use Rattle.win32_spec.specs.Tame.{HoldsNext, ObjectBecomes}
-use Rattle.win32_spec.specs.Effects.{MayWrite, MayExchange, CallEffect, Changes, Adds, AddsPipe}
+use Rattle.win32_spec.specs.Tame.{ObjectBecomes}
+use Rattle.win32_spec.specs.Effects.{MayExchange, CallEffect, Adds, AddsPipe}
 use Rattle.win32_spec.specs.CallEffects.{by_bool, by_option, is_event, is_mutex, is_pipe, unchanged, object_changes}
 
 pub set_effect : (script : Script) (s : Win32State) (w t h : ℕ) (r : Reply) (new : Win32State) → SetStep s w h r new
@@ -106,7 +106,7 @@ first_signalled-is s w t handles (h ∷ hs) m n e =
     by_test : (b : Bool) → is_handle_signalled s w t (handle_of handles h) ≡ b
         → (if b then Some m else first_signalled s w t handles hs (m + 1)) ≡ Some n
         → (first_signalled s w t handles hs (m + 1) ≡ Some n
-          → (k : ℕ) × (n ≡ m + 1 + k) × (is_handle_signalled s w t (handle_of handles (slice_index hs k)) ≡ true))
+        → (k : ℕ) × (n ≡ m + 1 + k) × (is_handle_signalled s w t (handle_of handles (slice_index hs k)) ≡ true))
         → (k : ℕ) × (n ≡ m + k) × (is_handle_signalled s w t (handle_of handles (slice_index (h ∷ hs) k)) ≡ true)
     by_test true f g rest = let i : m ≡ n = cc in (0, omega arith, f)
     by_test false f g rest = let r = rest g in (suc r.0, omega (arith, r.1), r.2)

@@ -1,20 +1,19 @@
 -- What a call leaves of an object that is listed before it and after it.
-use Rattle.std.proofs.Common.{◌≡◌, ◌≢◌, ◌⊎◌, inl, inr, ℕ, ◌+◌, Bool, true, false, List, [], ◌∷◌, Option, Some, None, refl, sym, ap, ◌∙◌, subst}
-use Rattle.std.proofs.lemmas.Bool.{cases_eq}
+use Rattle.std.proofs.Common.{◌≡◌, ◌⊎◌, inl, inr, ℕ, true, [], Some, sym, ap, ◌∙◌, subst}
 use Rattle.w32_base.specs.declared.call.Call.{Call}
 use Rattle.script_spec.specs.declared.script.Script.{Script}
-use Rattle.win32_spec.specs.Handles.{with_handle, without_handle}
-use Rattle.win32_spec.specs.State.{Object, Section, Event, Mutex, Pipe, ProcessObject, TerminalObject, NumberedObject, Process, Win32State}
-use Rattle.win32_spec.specs.Lookup.{process_of, is_live, object_of, change_process, add_object, with_handles, IsFresh}
-use Rattle.win32_spec.specs.Ends.{held_objects, object_left_by, objects_left_by, ended_process, with_end}
+use Rattle.win32_spec.specs.Handles.{without_handle}
+use Rattle.win32_spec.specs.State.{Object, Pipe, ProcessObject, Win32State}
+use Rattle.win32_spec.specs.Lookup.{process_of, is_live, object_of, change_process, add_object, IsFresh}
+use Rattle.win32_spec.specs.Ends.{object_left_by, objects_left_by, ended_process, with_end}
 use Rattle.win32_spec.specs.Named.{handles_by}
 use Rattle.win32_spec.specs.LookupLaws.{same_some, not_none}
 use Rattle.win32_spec.specs.ObjectLaws.{object_of-add_other, left_object}
 use Rattle.win32_spec.specs.HeldLaws.{held_object}
-use Rattle.win32_spec.specs.Tame.{ObjectBecomes, IsTame}
+use Rattle.win32_spec.specs.Tame.{ObjectBecomes}
 use Rattle.win32_spec.specs.TameLaws.{both_forth}
 use Rattle.win32_spec.specs.TameSteps.{object_same}
-use Rattle.win32_spec.specs.Effects.{MayWrite, MayExchange, CallEffect, Changes, Opens, Adds, AddsPipe, Makes, Closes, Ends}
+use Rattle.win32_spec.specs.Effects.{MayExchange, CallEffect, Changes, Opens, Adds, AddsPipe, Makes, Closes, Ends}
 
 -- An object after a call of thread t of process w: the call changed what it holds, or a process that lived before it ended.
 abbrev pub ObjectFollows : Win32State → Type 0 → ℕ → ℕ → Object → Object → Type 0
@@ -30,6 +29,14 @@ beside_new : (s : Win32State) (n o : ℕ) (z x y : Object) → IsFresh s n → o
 beside_new s n o z x y fresh e f =
     let apart = λ (m : o ≡ n). not_none (object_of s.objects n) x (ap (object_of s.objects) (sym m) ∙ e) fresh.free in
     same_some (object_of s.objects o) y x (sym (object_of-add_other n z s.objects o apart) ∙ f) e
+
+-- what is listed after the end of a process is what that leaves of an object
+pub left_by_end : (s : Win32State) (u code o : ℕ) (x y : Object) → object_of s.objects o ≡ Some x
+    → object_of (with_end s u code).objects o ≡ Some y → y ≡ object_left_by u x
+left_by_end s u code o x y e f =
+    let kept = (held_object (change_process u (ended_process code) s.processes) (objects_left_by u s.objects) o y f).0 in
+    let left = left_object u s.objects o y kept in
+    left.2 ∙ ap (object_left_by u) (same_some (object_of s.objects o) left.0 x left.1 e)
 
 pub object-effect : (script : Script) (s : Win32State) (w t : ℕ) (c : Call) (new : Win32State) → CallEffect script s w t c new
     → (o : ℕ) (x y : Object) → object_of s.objects o ≡ Some x → object_of new.objects o ≡ Some y
@@ -56,7 +63,4 @@ object-effect script s w t c new (Closes k after) o x y e f =
     (held_object (change_process w (λ p. record p { handles = without_handle (handles_by s w) k }) s.processes) s.objects o y
     (subst (λ (n : Win32State). object_of n.objects o ≡ Some y) after f)).0 e)
 object-effect script s w t c new (Ends u code alive after) o x y e f =
-    let kept = (held_object (change_process u (ended_process code) s.processes) (objects_left_by u s.objects) o y
-        (subst (λ (n : Win32State). object_of n.objects o ≡ Some y) after f)).0 in
-    let left = left_object u s.objects o y kept in
-    inr (u, alive, left.2 ∙ ap (object_left_by u) (same_some (object_of s.objects o) left.0 x left.1 e))
+    inr (u, alive, left_by_end s u code o x y e (subst (λ (n : Win32State). object_of n.objects o ≡ Some y) after f))

@@ -1,22 +1,21 @@
 -- The opening state is well formed.
-use Rattle.std.proofs.Common.{◌≡◌, ◌≢◌, ◌⊎◌, inl, inr, ℕ, zero, suc, ◌+◌, ◌-◌, ◌≤◌, ◌<◌, Bool, true, false, if◌then◌else◌, nat_eq, List, [], ◌∷◌, ◌++◌, length, replicate, Option, Some, None, slice_get, refl, sym, ap, ◌∙◌, subst, arith, append_assoc, length-append}
+use Rattle.std.proofs.Common.{◌≡◌, ◌≢◌, ◌⊎◌, inl, inr, ℕ, ◌+◌, ◌-◌, ◌≤◌, true, if◌then◌else◌, nat_eq, List, [], ◌∷◌, ◌++◌, length, Some, None, slice_get, refl, sym, ap, ◌∙◌, subst, arith, append_assoc, length-append}
 use Rattle.std.proofs.lemmas.Bool.{cases_eq}
 use Rattle.std.proofs.lemmas.List.{length-replicate}
 use Rattle.tty_spec.specs.Terminal.{opening_terminal}
 use Rattle.w32_base.specs.declared.setup.Module.{Module}
 use Rattle.w32_base.specs.declared.setup.Program.{Program}
 use Rattle.script_spec.specs.declared.script.Script.{Script}
-use Rattle.win32_spec.specs.Handles.{Handle, handle_of, AreRisingFrom}
+use Rattle.win32_spec.specs.Handles.{Handle, handle_of}
 use Rattle.win32_spec.specs.Objects.{Free}
-use Rattle.win32_spec.specs.State.{Object, Section, Mutex, ProcessObject, TerminalObject, NumberedObject, PlacedModule, Process, Win32State}
+use Rattle.win32_spec.specs.State.{Object, Section, Mutex, ProcessObject, TerminalObject, PlacedModule, Process, Win32State}
 use Rattle.win32_spec.specs.Lookup.{is_alive, process_of, object_number, object_of}
-use Rattle.win32_spec.specs.Ends.{is_object_held, is_process_held}
-use Rattle.win32_spec.specs.Making.{threads_of}
+use Rattle.win32_spec.specs.Ends.{is_object_held}
 use Rattle.win32_spec.specs.Placing.{base_in, and_placed}
 use Rattle.win32_spec.specs.Opening.{opening_words, ArePlaced, base_bytes, opening_cygheap, opening_memory, OpeningNumbers, opening_host, opening_handles, opening_process, opening_objects, opening, IsOpening}
-use Rattle.win32_spec.specs.WellFormed.{AreThreads, HasSizes, IsPlaced, AreModules, has_ends, IsListed, IsLiveProcess, IsProcessBy, IsObject, only_number, IsFormed, IsWellFormed}
+use Rattle.win32_spec.specs.WellFormed.{HasSizes, AreModules, has_ends, IsListed, IsLiveProcess, IsProcessBy, IsObject, only_number, IsFormed, IsWellFormed}
 use Rattle.win32_spec.specs.LookupLaws.{same, differs, same_some}
-use Rattle.win32_spec.specs.HeldLaws.{IsHeldBy, is-held}
+use Rattle.win32_spec.specs.HeldLaws.{is-held}
 use Rattle.win32_spec.specs.FormedLaws.{to_listed}
 use Rattle.win32_spec.specs.MadeLaws.{sizes-new_memory}
 use Rattle.win32_spec.specs.PlaceEffects.{modules-behind, base_in-behind}
@@ -32,8 +31,12 @@ length-base_bytes (m ∷ ms) = omega (arith, length-base_bytes ms)
 length-opening_cygheap : (placed : List PlacedModule) → length placed ≤ 8 → length (opening_cygheap placed) ≡ 288
 unfolding opening_cygheap
 length-opening_cygheap placed few =
-    simp length-append (omega (arith, length-base_bytes placed, length-replicate {A = ℕ} 139 0,
-      length-replicate {A = ℕ} (148 - length (base_bytes placed)) 0))
+    simp length-append (omega (
+      arith,
+      length-base_bytes placed,
+      length-replicate {A = ℕ} 139 0,
+      length-replicate {A = ℕ} (148 - length (base_bytes placed)) 0,
+    ))
 
 -- an element behind others
 slice_get-behind : {X : Type 0} (front : List X) (x : X) (rest : List X) → slice_get (front ++ x ∷ rest) (length front) ≡ Some x
@@ -50,17 +53,15 @@ placed-modules script creation m (wanted ∷ others) front before after e n free
     let listed : slice_get script.setup.modules m ≡ Some wanted = rw (e, ← n) (slice_get-behind front wanted others) in
     let longer : length (front ++ wanted ∷ []) ≡ m + 1 = omega (arith, length-append front (wanted ∷ [])) in
     let next = placed-modules script creation (m + 1) others (front ++ wanted ∷ []) (and_placed before m placed.0) after
-        (rw append_assoc e) longer
-        (λ k l. base_in-behind before k m placed.0 (free k (omega arith)) (λ i. omega arith))
-        (modules-behind script.setup.modules before m placed.0 (free m (omega arith))
-        (record { wanted = wanted; listed = listed; within = placed.1.0.within }) h) placed.2 in
+    (rw append_assoc e) longer
+    (λ k l. base_in-behind before k m placed.0 (free k (omega arith)) (λ i. omega arith))
+    (modules-behind script.setup.modules before m placed.0 (free m (omega arith))
+    (record { wanted = wanted; listed = listed; within = placed.1.0.within }) h) placed.2 in
     (next.0, omega (arith, next.1, length-append before (record { module_no = m; base = placed.0 } ∷ [])))
-
 
 module _ (script : Script) (numbers : OpeningNumbers) (program : Program) (placed : List PlacedModule)
     (first : slice_get script.setup.programs 0 ≡ Some program) (in_order : ArePlaced script 1 0 script.setup.modules [] placed)
     (few : length script.setup.modules ≤ 8) (slots : 1 ≤ script.setup.limits.slots) where
-
   modules_are : AreModules script.setup.modules placed × (length placed ≡ 0 + length script.setup.modules)
   modules_are = placed-modules script 1 0 script.setup.modules [] [] placed refl refl (λ k l. refl) tt in_order
 
@@ -95,11 +96,17 @@ module _ (script : Script) (numbers : OpeningNumbers) (program : Program) (place
     | inr a ↦ elim (cases_eq o numbers.mutex) [
       | inl n ↦ inr (inl (n, same_some (object_of (opening_objects numbers) o) x (Mutex Free) e (ap (object_of (opening_objects numbers)) n ∙ at_mutex)))
       | inr b ↦ elim (cases_eq o numbers.terminal) [
-        | inl n ↦ inr (inr (inl (n, same_some (object_of (opening_objects numbers) o) x (TerminalObject opening_terminal) e
-            (ap (object_of (opening_objects numbers)) n ∙ at_terminal))))
+        | inl n ↦ inr (inr (inl (
+          n,
+          same_some (object_of (opening_objects numbers) o) x (TerminalObject opening_terminal) e
+              (ap (object_of (opening_objects numbers)) n ∙ at_terminal),
+        )))
         | inr c ↦ elim (cases_eq o numbers.process) [
-          | inl n ↦ inr (inr (inr (n, same_some (object_of (opening_objects numbers) o) x (ProcessObject 2) e
-              (ap (object_of (opening_objects numbers)) n ∙ at_process))))
+          | inl n ↦ inr (inr (inr (
+            n,
+            same_some (object_of (opening_objects numbers) o) x (ProcessObject 2) e
+                (ap (object_of (opening_objects numbers)) n ∙ at_process),
+          )))
           | inr d ↦ absurd (gone a b c d)
         ]
       ]
@@ -129,40 +136,64 @@ module _ (script : Script) (numbers : OpeningNumbers) (program : Program) (place
       → IsListed (opening_objects numbers) names
   list_one names o x e f fits =
       to_listed (opening_objects numbers) names x (ap (object_of (opening_objects numbers)) e ∙ f)
-      (λ k. elim fits [ | inl m ↦ e ∙ sym m | inr m ↦ absurd (cc) ])
+      (λ k. elim fits [ inl m ↦ e ∙ sym m | inr m ↦ absurd (cc) ])
 
   lines_face : object_number (numbers.terminal + 1) ≡ numbers.terminal
   lines_face = omega (arith, numbers.terminal_even)
 
   host_live : IsLiveProcess script (opening_objects numbers) (opening_host numbers)
   host_live = record {
-    kind = record { number = refl; slot = refl; placed = refl;
-      sizes = record { dat_size = refl; heap_size = refl; stack_size = refl; cyg_size = refl; scratch_size = refl } };
+    kind = record {
+      number = refl;
+      slot = refl;
+      placed = refl;
+      sizes = record { dat_size = refl; heap_size = refl; stack_size = refl; cyg_size = refl; scratch_size = refl };
+    };
     threads = (refl, omega arith, (refl, omega arith, tt));
     rising = (omega arith, omega arith, (omega arith, omega arith, (omega arith, omega arith, (omega arith, omega arith, tt))));
-    naming = all_listed (opening_host numbers).handles
-        (list_one numbers.section numbers.section (Section opening_words) numbers.section_even at_section (inl refl),
-        (list_one numbers.mutex numbers.mutex (Mutex Free) numbers.mutex_even at_mutex (inl refl),
-        (list_one numbers.terminal numbers.terminal (TerminalObject opening_terminal) numbers.terminal_even at_terminal (inl refl),
-        (list_one numbers.process numbers.process (ProcessObject 2) numbers.process_even at_process (inl refl), tt))));
+    naming = all_listed (opening_host numbers).handles (
+      list_one numbers.section numbers.section (Section opening_words) numbers.section_even at_section (inl refl),
+      (
+        list_one numbers.mutex numbers.mutex (Mutex Free) numbers.mutex_even at_mutex (inl refl),
+        (
+          list_one numbers.terminal numbers.terminal (TerminalObject opening_terminal) numbers.terminal_even at_terminal (inl refl),
+          (list_one numbers.process numbers.process (ProcessObject 2) numbers.process_even at_process (inl refl), tt),
+        ),
+      ),
+    );
   }
 
   first_sizes : HasSizes (opening_memory program placed) 64 program.heap program.stack 288 512
   first_sizes =
       let new = sizes-new_memory 0 program in
-      record { dat_size = new.dat_size; heap_size = new.heap_size; stack_size = new.stack_size; scratch_size = new.scratch_size;
-        cyg_size = length-opening_cygheap placed (omega (arith, modules_are.1)) }
+      record {
+        dat_size = new.dat_size;
+        heap_size = new.heap_size;
+        stack_size = new.stack_size;
+        scratch_size = new.scratch_size;
+        cyg_size = length-opening_cygheap placed (omega (arith, modules_are.1));
+      }
 
   first_live : IsLiveProcess script (opening_objects numbers) (opening_process numbers program placed)
   first_live = record {
-    kind = record { number = omega arith; from_one = omega arith; most = slots; program = program; listed = first; sizes = first_sizes;
-      placed = modules_are.0 };
+    kind = record {
+      number = omega arith;
+      from_one = omega arith;
+      most = slots;
+      program = program;
+      listed = first;
+      sizes = first_sizes;
+      placed = modules_are.0;
+    };
     threads = (refl, omega arith, (refl, omega arith, (refl, omega arith, tt)));
     rising = (omega arith, omega arith, (omega arith, omega arith, (omega arith, omega arith, tt)));
-    naming = all_listed (opening_handles numbers)
-        (list_one numbers.section numbers.section (Section opening_words) numbers.section_even at_section (inl refl),
-        (list_one numbers.mutex numbers.mutex (Mutex Free) numbers.mutex_even at_mutex (inl refl),
-        (list_one (numbers.terminal + 1) numbers.terminal (TerminalObject opening_terminal) lines_face at_terminal (inr refl), tt)));
+    naming = all_listed (opening_handles numbers) (
+      list_one numbers.section numbers.section (Section opening_words) numbers.section_even at_section (inl refl),
+      (
+        list_one numbers.mutex numbers.mutex (Mutex Free) numbers.mutex_even at_mutex (inl refl),
+        (list_one (numbers.terminal + 1) numbers.terminal (TerminalObject opening_terminal) lines_face at_terminal (inr refl), tt),
+      ),
+    );
   }
 
   abbrev two_processes : List Process
@@ -182,8 +213,15 @@ module _ (script : Script) (numbers : OpeningNumbers) (program : Program) (place
   opening_formed = record {
     next = omega arith;
     processes = (omega arith, omega arith, (omega arith, omega arith, tt));
-    objects = (omega arith, numbers.section_even, (omega (arith, numbers.mutex_above), numbers.mutex_even,
-        (omega (arith, numbers.terminal_above), numbers.terminal_even, (omega (arith, numbers.process_above), numbers.process_even, tt))));
+    objects = (
+      omega arith,
+      numbers.section_even,
+      (
+        omega (arith, numbers.mutex_above),
+        numbers.mutex_even,
+        (omega (arith, numbers.terminal_above), numbers.terminal_even, (omega (arith, numbers.process_above), numbers.process_even, tt)),
+      ),
+    );
     process = λ w p e. elim (which_process w p e) [
       | inl host ↦ subst (λ (x : Process). IsProcessBy script (opening_objects numbers) x x.life) (sym host.1) host_live
       | inr layer ↦ subst (λ (x : Process). IsProcessBy script (opening_objects numbers) x x.life) (sym layer.1) first_live
@@ -227,8 +265,16 @@ module _ (script : Script) (numbers : OpeningNumbers) (program : Program) (place
   held_by_host : (k names o : ℕ) → handle_of (opening_host numbers).handles k ≡ Some names → object_number names ≡ o
       → is_object_held two_processes o ≡ true
   held_by_host k names o e n =
-      is-held two_processes o (record { number = 1; process = opening_host numbers; found = refl; alive = refl; handle = k; names = names;
-        named = e; object = n })
+      is-held two_processes o (record {
+        number = 1;
+        process = opening_host numbers;
+        found = refl;
+        alive = refl;
+        handle = k;
+        names = names;
+        named = e;
+        object = n;
+      })
 
   opening_wellformed : IsWellFormed script (opening numbers program placed)
   opening_wellformed = record {

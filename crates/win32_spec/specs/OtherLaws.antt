@@ -1,25 +1,20 @@
 -- What a call leaves of the processes that are not the caller's, of those that have ended, and of objects.
-use Rattle.std.proofs.Common.{◌≡◌, ◌≢◌, ◌⊎◌, inl, inr, ℕ, ◌+◌, ◌≤◌, ◌<◌, Bool, true, false, ◌||◌, List, Option, Some, None, refl, sym, ap, ◌∙◌, subst, arith}
-use Rattle.std.proofs.lemmas.Bool.{cases_eq}
-use Rattle.w32_base.specs.Part.{KeepsLengths}
+use Rattle.std.proofs.Common.{◌≡◌, ◌≢◌, inl, inr, ℕ, ◌+◌, true, false, List, Some, refl, sym, ap, ◌∙◌, subst}
 use Rattle.w32_base.specs.declared.call.Call.{Call}
 use Rattle.script_spec.specs.declared.script.Script.{Script}
 use Rattle.win32_spec.specs.Handles.{Handle, with_handle, without_handle, listed_handles}
-use Rattle.win32_spec.specs.State.{Object, Section, Event, Mutex, Pipe, ProcessObject, TerminalObject, NumberedObject, Process, Win32State}
-use Rattle.win32_spec.specs.Lookup.{is_alive, process_of, is_live, object_number, object_of, change_process, add_process, add_object, with_handles, with_new_object}
-use Rattle.win32_spec.specs.Ends.{is_process_held, held_objects, kept_processes, swept, object_left_by, objects_left_by, ended_process, with_ended, with_end}
+use Rattle.win32_spec.specs.State.{Process, Win32State}
+use Rattle.win32_spec.specs.Lookup.{is_alive, process_of, change_process, add_process}
+use Rattle.win32_spec.specs.Ends.{held_objects, objects_left_by, ended_process}
 use Rattle.win32_spec.specs.Making.{new_process}
 use Rattle.win32_spec.specs.Named.{handles_by}
-use Rattle.win32_spec.specs.ProcessCalls.{with_made}
-use Rattle.win32_spec.specs.WellFormed.{has_ends, only_number, AreRisingProcesses, IsFormed, IsWellFormed}
-use Rattle.win32_spec.specs.LookupLaws.{same_some, not_none, or_right, rising-bounds, rising-absent, process_of-change_same, process_of-change_other, changed_process, process_of-add_kept, process_of-add_other, rising-change_process}
-use Rattle.win32_spec.specs.ObjectLaws.{object_of-add_other, left_object}
-use Rattle.win32_spec.specs.HeldLaws.{held_object, kept_process, kept_process-stays}
-use Rattle.win32_spec.specs.FormedLaws.{live_found, found_live, only_number-left, has_ends-left}
-use Rattle.win32_spec.specs.Tame.{ProcessBecomes, HoldsNext, ObjectBecomes, IsTame}
-use Rattle.win32_spec.specs.TameLaws.{both_back, both_forth}
+use Rattle.win32_spec.specs.WellFormed.{IsWellFormed}
+use Rattle.win32_spec.specs.LookupLaws.{same_some, process_of-change_other, changed_process, process_of-add_kept, rising-change_process}
+use Rattle.win32_spec.specs.HeldLaws.{kept_process}
+use Rattle.win32_spec.specs.Tame.{ProcessBecomes}
+use Rattle.win32_spec.specs.TameLaws.{both_forth}
 use Rattle.win32_spec.specs.TameSteps.{process_same}
-use Rattle.win32_spec.specs.Effects.{MayWrite, MayExchange, CallEffect, Changes, Opens, Adds, AddsPipe, Makes, Closes, Ends}
+use Rattle.win32_spec.specs.Effects.{MayWrite, CallEffect, Changes, Opens, Adds, AddsPipe, Makes, Closes, Ends}
 
 -- One change after another.
 pub becomes_trans : (script : Script) (A B C D E F : Type 0) (p q r : Process) → (A → C) → (B → C) → (D → F) → (E → F)

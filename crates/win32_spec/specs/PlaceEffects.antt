@@ -1,13 +1,10 @@
 -- Each call makes one of the changes: `run`, `module`, and the calls that end a process or tell its code.
-use Rattle.std.proofs.Common.{◌≡◌, ◌≢◌, ◌⊎◌, inl, inr, ℕ, ◌+◌, ◌≤◌, Bool, true, false, if◌then◌else◌, nat_eq, List, [], ◌∷◌, ◌++◌, length, Option, Some, None, MatchOption, MatchBool, slice_get, All, IsTrue, refl, sym, ap, ◌∙◌, subst, arith}
+use Rattle.std.proofs.Common.{◌≡◌, ◌≢◌, inl, inr, ℕ, true, List, [], ◌∷◌, Some, None, MatchOption, slice_get, All, IsTrue, refl, sym, ap, ◌∙◌, subst}
 use Rattle.std.proofs.lemmas.Bool.{cases_eq}
 use Rattle.w32_base.specs.Part.{KeepsLengths}
-use Rattle.w32_base.specs.declared.call.Call.{Call}
 use Rattle.w32_base.specs.declared.call.Call.TheVariants as call
 use Rattle.w32_base.specs.declared.call.Reply.{Reply}
-use Rattle.w32_base.specs.declared.instr.Instr.{Instr}
 use Rattle.w32_base.specs.declared.own.Own.{Own}
-use Rattle.w32_base.specs.declared.setup.Program.{Program}
 use Rattle.w32_base.specs.declared.setup.Module.{Module}
 use Rattle.script_spec.specs.declared.script.Script.{Script}
 use Rattle.vm_spec.specs.Block.{block_image}
@@ -15,16 +12,15 @@ use Rattle.vm_spec.specs.Image.{Image, image_of, with_image, SameSizes}
 use Rattle.vm_spec.specs.SizeLaws.{writes_register}
 use Rattle.vm_spec.specs.StepLaws.{SameSizes-block}
 use Rattle.win32_spec.specs.State.{PlacedModule, Process, Win32State}
-use Rattle.win32_spec.specs.Lookup.{is_alive, process_of, is_live, memory_by, with_process, with_own}
-use Rattle.win32_spec.specs.Ends.{with_end}
-use Rattle.win32_spec.specs.Named.{object_by, process_named, Gives}
+use Rattle.win32_spec.specs.Lookup.{is_alive, process_of, is_live, memory_by}
+use Rattle.win32_spec.specs.Named.{object_by, process_named}
 use Rattle.win32_spec.specs.ProcessCalls.{ExitCodeStep, TerminateStep, ExitSelfStep}
-use Rattle.win32_spec.specs.MemoryCalls.{program_no_of, program_no_by, instructions_of, code_of, BlockStep, RunStep}
-use Rattle.win32_spec.specs.Placing.{base_in, placed_of, placed_by, and_placed, Places, ModuleStep}
+use Rattle.win32_spec.specs.MemoryCalls.{program_no_of, program_no_by, instructions_of, code_of, RunStep}
+use Rattle.win32_spec.specs.Placing.{base_in, placed_of, placed_by, and_placed, ModuleStep}
 use Rattle.win32_spec.specs.WellFormed.{IsPlaced, AreModules, IsHost, IsLayerProcess, IsFormed}
-use Rattle.win32_spec.specs.LookupLaws.{same, differs, same_some}
-use Rattle.win32_spec.specs.FormedLaws.{of_live, live_found}
-use Rattle.win32_spec.specs.Tame.{ProcessBecomes, IsTame}
+use Rattle.win32_spec.specs.LookupLaws.{same, differs}
+use Rattle.win32_spec.specs.FormedLaws.{of_live}
+use Rattle.win32_spec.specs.Tame.{ProcessBecomes}
 use Rattle.win32_spec.specs.TameSteps.{lengths-same, tame_process}
 use Rattle.win32_spec.specs.Effects.{MayWrite, MayExchange, CallEffect, Changes, Ends}
 use Rattle.win32_spec.specs.CallEffects.{by_bool, by_option, unchanged}
@@ -81,8 +77,18 @@ placed_becomes : (script : Script) (Written Acting : Type 0) (p : Process) (k : 
     → (AreModules script.setup.modules p.placed → AreModules script.setup.modules placed) → ProcessBecomes script Written Acting p (record p { placed = placed })
 placed_becomes script Written Acting p k placed alive program acting keeps = record {
   ended = λ e. absurd (cc);
-  number = refl; slot = refl; program = refl; life = refl; handles = refl; threads = λ ts h. h;
-  lengths = lengths-same p.own; bytes = λ n. refl; modules = λ n. absurd (n acting); posted = λ n t. refl; unplaced = λ e. absurd (cc); placed = keeps;
+  number = refl;
+  slot = refl;
+  program = refl;
+  life = refl;
+  handles = refl;
+  threads = λ ts h. h;
+  lengths = lengths-same p.own;
+  bytes = λ n. refl;
+  modules = λ n. absurd (n acting);
+  posted = λ n t. refl;
+  unplaced = λ e. absurd (cc);
+  placed = keeps;
 }
 
 pub module_effect : (script : Script) (s : Win32State) (w t m : ℕ) (r : Reply) (new : Win32State)

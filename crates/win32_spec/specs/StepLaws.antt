@@ -1,5 +1,5 @@
 -- Each directive leaves a well-formed state well formed.
-use Rattle.std.proofs.Common.{◌≡◌, ℕ, zero, suc, ◌+◌, ◌≤◌, ◌<◌, Bool, true, false, if◌then◌else◌, nat_eq, List, [], ◌∷◌, Option, Some, None, MatchBool, refl, sym, ap, ◌∙◌, subst, arith}
+use Rattle.std.proofs.Common.{◌≡◌, ℕ, zero, suc, ◌≤◌, Bool, true, false, if◌then◌else◌, nat_eq, List, [], ◌∷◌, Option, Some, None, refl, sym, subst, arith}
 use Rattle.std.proofs.lemmas.Bool.{eqb-true}
 use Rattle.w32_base.specs.declared.call.Call.{Call}
 use Rattle.w32_base.specs.declared.entry.Directive.{Directive}
@@ -10,13 +10,12 @@ use Rattle.w32_base.specs.declared.own.Own.{Own}
 use Rattle.w32_base.specs.Part.{KeepsLengths}
 use Rattle.script_spec.specs.declared.script.Script.{Script}
 use Rattle.win32_spec.specs.State.{Thread, Process, Win32State}
-use Rattle.win32_spec.specs.Lookup.{is_alive, process_of, is_live, process_in, thread_in, change_thread, memory_by, with_thread, with_posted, with_own}
+use Rattle.win32_spec.specs.Lookup.{process_of, is_live, process_in, thread_in, change_thread, memory_by, with_posted, with_own}
 use Rattle.win32_spec.specs.Ready.{is_ready}
-use Rattle.win32_spec.specs.Ends.{with_end}
 use Rattle.win32_spec.specs.Making.{threads_of}
-use Rattle.win32_spec.specs.Run.{IsThread, PostedStep, Acts, ReadyTurn, EndStep, with_key, StepBy, DirectiveStep, Win32Run, ended_from_outside}
+use Rattle.win32_spec.specs.Run.{IsThread, Acts, ReadyTurn, EndStep, with_key, StepBy, Win32Run, ended_from_outside}
 use Rattle.win32_spec.specs.WellFormed.{AreThreads, IsFormed, IsWellFormed}
-use Rattle.win32_spec.specs.LookupLaws.{same_some, process_of-change_same, process_in-found}
+use Rattle.win32_spec.specs.LookupLaws.{process_of-change_same, process_in-found}
 use Rattle.win32_spec.specs.FormedLaws.{of_live, live_found, found_live}
 use Rattle.win32_spec.specs.Tame.{IsTame}
 use Rattle.win32_spec.specs.TameLaws.{wellformed-tame}
@@ -24,7 +23,6 @@ use Rattle.win32_spec.specs.TameSteps.{tame_process}
 use Rattle.win32_spec.specs.CallEffects.{by_bool}
 use Rattle.win32_spec.specs.ThreadEffects.{threads_become, threads-change, memory_becomes}
 use Rattle.win32_spec.specs.MemoryEffects.{memory_by-found, HaveRegisters}
-use Rattle.win32_spec.specs.Effects.{CallEffect}
 use Rattle.win32_spec.specs.TerminalEffects.{effect_of_call}
 use Rattle.win32_spec.specs.KeepLaws.{wellformed-ended, wellformed-effect}
 

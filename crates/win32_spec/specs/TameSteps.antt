@@ -25,7 +25,9 @@ process_same script Written Acting p = record {
   handles = refl;
   threads = λ ts h. h;
   lengths = lengths-same p.own;
-  bytes = λ n. refl; modules = λ n. refl; posted = λ n t. refl;
+  bytes = λ n. refl;
+  modules = λ n. refl;
+  posted = λ n t. refl;
   unplaced = λ e. refl;
   placed = λ h. h;
 }

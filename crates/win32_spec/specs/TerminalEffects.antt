@@ -1,39 +1,30 @@
 -- Each call makes one of the changes: the calls on the terminal; and so all calls.
-use Rattle.std.proofs.Common.{◌≡◌, ◌≢◌, ◌⊎◌, inl, inr, ℕ, ◌+◌, ◌≤◌, ◌<◌, Bool, true, false, ◌&&◌, not, if◌then◌else◌, nat_eq, nat_le, List, [], ◌∷◌, length, take, drop, Option, Some, None, MatchOption, MatchBool, slice_get, refl, sym, ap, ◌∙◌, subst, arith, length-take}
-use Rattle.std.proofs.lemmas.Bool.{cases_eq, leb-true}
+use Rattle.std.proofs.Common.{◌≡◌, inl, inr, ℕ, ◌≤◌, Bool, true, false, ◌&&◌, not, nat_le, List, [], ◌∷◌, length, take, Option, Some, None, refl, sym, ap, subst, arith, length-take}
 use Rattle.tty_spec.specs.Terminal.{Terminal}
 use Rattle.tty_spec.specs.Discipline.{Taken, has_flag, tostop_flag, after_key, after_take, taking}
 use Rattle.w32_base.specs.Part.{KeepsLengths}
 use Rattle.w32_base.specs.declared.call.Call.{Call}
 use Rattle.w32_base.specs.declared.call.Call.TheVariants as call
 use Rattle.w32_base.specs.declared.call.Reply.{Reply}
-use Rattle.w32_base.specs.declared.call.Reply.TheVariants as reply
 use Rattle.w32_base.specs.declared.call.Region.TheVariants.{Heap}
 use Rattle.w32_base.specs.declared.call.TtyOp.{TtyOp}
 use Rattle.w32_base.specs.declared.call.TtyOp.TheVariants as tty
 use Rattle.w32_base.specs.declared.own.Own.{Own}
 use Rattle.script_spec.specs.declared.script.Script.{Script}
-use Rattle.win32_spec.specs.Handles.{handle_of}
-use Rattle.win32_spec.specs.Regions.{written, is_inside}
-use Rattle.win32_spec.specs.State.{Object, Section, Event, Mutex, Pipe, ProcessObject, TerminalObject, NumberedObject, Process, Win32State}
-use Rattle.win32_spec.specs.Lookup.{is_alive, process_of, is_live, memory_by, object_number, object_of, change_process, change_object, with_object}
-use Rattle.win32_spec.specs.Ends.{is_object_of}
-use Rattle.win32_spec.specs.Named.{handles_by, named_by, object_number_by, object_by, process_named, terminal_named, is_full, has_absent, Gives, GetsHandle, MakesObject}
-use Rattle.win32_spec.specs.ProcessCalls.{live_process, process_object, OpenStep, MakesIn, CreateStep}
-use Rattle.win32_spec.specs.HandleCalls.{DupStep, CloseStep}
+use Rattle.win32_spec.specs.Regions.{written}
+use Rattle.win32_spec.specs.State.{TerminalObject, Win32State}
+use Rattle.win32_spec.specs.Lookup.{process_of, is_live, memory_by}
+use Rattle.win32_spec.specs.Named.{object_number_by, object_by, terminal_named}
 use Rattle.win32_spec.specs.MemoryCalls.{has_range}
-use Rattle.win32_spec.specs.TerminalCalls.{KeyStep, is_buffer, is_background, TakeStep, WriteStep, ChangeStep, OpStep, TtyStep, with_terminal}
-use Rattle.win32_spec.specs.WellFormed.{AreRisingObjects, has_ends, FitsEnd, IsListed, only_number, IsFormed}
-use Rattle.win32_spec.specs.LookupLaws.{same, differs, same_some, not_none, and_true}
-use Rattle.win32_spec.specs.ObjectLaws.{rising_objects-bound}
-use Rattle.win32_spec.specs.FormedLaws.{of_live, to_listed, live_found}
-use Rattle.win32_spec.specs.Tame.{ProcessBecomes, ObjectBecomes, IsTame}
+use Rattle.win32_spec.specs.TerminalCalls.{KeyStep, is_buffer, is_background, TakeStep, ChangeStep, OpStep, TtyStep}
+use Rattle.win32_spec.specs.WellFormed.{IsFormed}
+use Rattle.win32_spec.specs.LookupLaws.{and_true}
+use Rattle.win32_spec.specs.Tame.{ObjectBecomes}
 use Rattle.win32_spec.specs.TameSteps.{processes_same, processes_change, objects_change}
-use Rattle.win32_spec.specs.Effects.{MayWrite, MayExchange, CallEffect, Changes, Opens, Makes, Closes}
+use Rattle.win32_spec.specs.Effects.{MayWrite, MayExchange, CallEffect, Changes}
 use Rattle.win32_spec.specs.CallEffects.{by_bool, by_option, object_by-found, is_terminal, unchanged, object_changes}
-use Rattle.win32_spec.specs.ThreadEffects.{live_of-found, memory_becomes}
+use Rattle.win32_spec.specs.ThreadEffects.{memory_becomes}
 use Rattle.win32_spec.specs.MemoryEffects.{length-written, inside, memory_by-found}
-use Rattle.win32_spec.specs.ObjectEffects.{made_effect}
 use Rattle.win32_spec.specs.Call.{CallStep}
 use Rattle.win32_spec.specs.CallEffects.{load_effect, exchange_effect, add_effect}
 use Rattle.win32_spec.specs.ThreadEffects.{resume_effect, suspend_effect}
@@ -78,9 +69,14 @@ heap_keeps : (own : Own) (place count : ℕ) (bytes : List ℕ) → is_buffer ow
     → KeepsLengths own (record own { heap = written own.heap place bytes })
 heap_keeps own place count bytes fits few =
     let range = (and_true (nat_le count 64) (has_range own Heap place count) fits).1 in
-    record { dat = refl; stack = refl; cyg = refl; scratch = refl;
+    record {
+      dat = refl;
+      stack = refl;
+      cyg = refl;
+      scratch = refl;
       heap = length-written own.heap place bytes
-      (elim (inside (length own.heap) place count range) [ | inl z ↦ inl (omega arith) | inr l ↦ inr (omega arith) ]); }
+          (elim (inside (length own.heap) place count range) [ inl z ↦ inl (omega arith) | inr l ↦ inr (omega arith) ]);
+    }
 
 take_effect : (script : Script) (s : Win32State) (w t : ℕ) (c : Call) (h : ℕ) (terminal : Terminal) (group count place : ℕ) (r : Reply) (new : Win32State)
     → is_live (process_of s.processes w) ≡ true → object_by s w h ≡ Some (TerminalObject terminal)

@@ -1,30 +1,23 @@
 -- Each call makes one of the changes: the calls on threads, on ends and on memory.
-use Rattle.std.proofs.Common.{◌≡◌, ◌≢◌, ◌⊎◌, inl, inr, ℕ, ◌+◌, ◌-◌, ◌≤◌, ◌<◌, Bool, true, false, ◌&&◌, if◌then◌else◌, nat_eq, nat_lt, nat_le, List, [], ◌∷◌, ◌++◌, length, take, drop, Option, Some, None, MatchOption, MatchBool, slice_get, All, IsTrue, refl, sym, ap, ◌∙◌, subst, arith, length-append, length-take, length-drop}
-use Rattle.std.proofs.lemmas.Bool.{cases_eq, eqb-true, leb-true}
+use Rattle.std.proofs.Common.{◌≡◌, ℕ, ◌+◌, ◌≤◌, Bool, true, false, if◌then◌else◌, nat_eq, nat_lt, List, [], ◌∷◌, Option, Some, None, refl, sym, ap, ◌∙◌, subst, arith}
 use Rattle.std.proofs.lemmas.Bool.Decides.{nat_tests}
 use Rattle.w32_base.specs.Part.{KeepsLengths}
 use Rattle.w32_base.specs.declared.call.Call.{Call}
 use Rattle.w32_base.specs.declared.call.Call.TheVariants as call
-use Rattle.w32_base.specs.declared.call.Region.{Region}
-use Rattle.w32_base.specs.declared.call.Region.TheVariants.{Dat, Heap, Stack, Cyg, Scratch}
 use Rattle.w32_base.specs.declared.call.Reply.{Reply}
 use Rattle.w32_base.specs.declared.own.Own.{Own}
-use Rattle.w32_base.specs.declared.setup.Program.{Program}
-use Rattle.w32_base.specs.declared.setup.Module.{Module}
 use Rattle.script_spec.specs.declared.script.Script.{Script}
-use Rattle.vm_spec.specs.SizeLaws.{writes_register}
-use Rattle.win32_spec.specs.Regions.{region_of, with_region, is_inside, range_of, written}
-use Rattle.win32_spec.specs.State.{Thread, PlacedModule, Process, Win32State}
-use Rattle.win32_spec.specs.Lookup.{is_alive, process_of, is_live, memory_of, memory_by, thread_in, change_thread, with_process, with_thread, with_own}
-use Rattle.win32_spec.specs.Named.{object_by, process_named, Gives}
+use Rattle.win32_spec.specs.Regions.{written}
+use Rattle.win32_spec.specs.State.{Thread, Process, Win32State}
+use Rattle.win32_spec.specs.Lookup.{is_alive, process_of, thread_in, change_thread}
+use Rattle.win32_spec.specs.Named.{object_by, process_named}
 use Rattle.win32_spec.specs.ProcessCalls.{live_of, live_process, resumed, suspended_more, CountStep, ResumeStep, SuspendStep}
-use Rattle.win32_spec.specs.MemoryCalls.{has_range, copied, is_copyable, ReadMemoryStep, WriteMemoryStep}
 use Rattle.win32_spec.specs.WellFormed.{AreThreads}
-use Rattle.win32_spec.specs.LookupLaws.{and_true, or_true, same_some}
-use Rattle.win32_spec.specs.Tame.{posted_by, PostTheSame, ProcessBecomes, IsTame}
+use Rattle.win32_spec.specs.LookupLaws.{same_some}
+use Rattle.win32_spec.specs.Tame.{posted_by, PostTheSame, ProcessBecomes}
 use Rattle.win32_spec.specs.TameSteps.{lengths-same, tame_process}
 use Rattle.win32_spec.specs.Effects.{MayWrite, MayExchange, CallEffect, Changes}
-use Rattle.win32_spec.specs.CallEffects.{by_bool, by_option, unchanged}
+use Rattle.win32_spec.specs.CallEffects.{by_option, unchanged}
 
 -- a live process is found alive
 pub live_of-found : (o : Option Process) (p : Process) → live_of o ≡ Some p → (o ≡ Some p) × (is_alive p.life ≡ true)
@@ -41,8 +34,18 @@ pub threads_become : (script : Script) (Written Acting : Type 0) (p : Process) (
     → ProcessBecomes script Written Acting p (record p { threads = xs })
 threads_become script Written Acting p xs alive keeps posted = record {
   ended = λ e. absurd (cc);
-  number = refl; slot = refl; program = refl; life = refl; handles = refl; threads = keeps;
-  lengths = lengths-same p.own; bytes = λ n. refl; modules = λ n. refl; posted = posted; unplaced = λ e. refl; placed = λ h. h;
+  number = refl;
+  slot = refl;
+  program = refl;
+  life = refl;
+  handles = refl;
+  threads = keeps;
+  lengths = lengths-same p.own;
+  bytes = λ n. refl;
+  modules = λ n. refl;
+  posted = posted;
+  unplaced = λ e. refl;
+  placed = λ h. h;
 }
 
 -- a process whose memory alone changes
@@ -50,8 +53,18 @@ pub memory_becomes : (script : Script) (Written Acting : Type 0) (p : Process) (
     → ProcessBecomes script Written Acting p (record p { own = own })
 memory_becomes script Written Acting p own alive written lengths = record {
   ended = λ e. absurd (cc);
-  number = refl; slot = refl; program = refl; life = refl; handles = refl; threads = λ ts h. h;
-  lengths = lengths; bytes = λ n. absurd (n written); modules = λ n. refl; posted = λ n t. refl; unplaced = λ e. refl; placed = λ h. h;
+  number = refl;
+  slot = refl;
+  program = refl;
+  life = refl;
+  handles = refl;
+  threads = λ ts h. h;
+  lengths = lengths;
+  bytes = λ n. absurd (n written);
+  modules = λ n. refl;
+  posted = λ n t. refl;
+  unplaced = λ e. refl;
+  placed = λ h. h;
 }
 
 -- one thread of others changes
@@ -115,4 +128,3 @@ pub suspend_effect : (script : Script) (s : Win32State) (w t h x : ℕ) (r : Rep
 suspend_effect script s w t h x r new step =
     by_option (process_named (object_by s w h)) (λ e m. unchanged script s w t (call.Suspend h x) new m.1)
     (λ v e m. count_effect script s w t (call.Suspend h x) suspended_more suspended-most v x r new m) step
-
