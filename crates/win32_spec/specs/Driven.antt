@@ -37,8 +37,9 @@ pub record DrivenState (P : Type 0) : Type 0 where
   pub parts : Parts P
   pub last : Option Event
 
--- What a type of parts means: the call that a part posts, what a turn may do (from the part, the own bytes, the setup and
--- the reply, to the part, the own bytes and the answer), whether it is as it is opened, and the thread that it serves.
+-- What a type of parts means: the call that a part posts, what a turn may do (from the part, the own bytes, the setup
+-- and the reply, to the part, the own bytes and the answer), whether it is as it is opened, and the thread that it
+-- serves.
 module _ {P : Type 0} (posted_of : P → Call) (goes : P → Own → Setup → Reply → P → Own → After → Type 0)
     (opening : P → Type 0) (slot_of thread_of : P → ℕ) where
   -- a part that was just opened for a thread
@@ -70,8 +71,8 @@ module _ {P : Type 0} (posted_of : P → Call) (goes : P → Own → Setup → R
   is_same_number (Some v) None = false
   is_same_number (Some v) (Some w) = nat_eq v w
 
-  -- The part at a place after a step in which it didn't go on: it stays while the slot has the same process. The parts of
-  -- a process that has ended go, and those of a process that was made come as they are opened.
+  -- The part at a place after a step in which it didn't go on: it stays while the slot has the same process. The
+  -- parts of a process that has ended go, and those of a process that was made come as they are opened.
   abbrev pub PartFollows : Win32State → Win32State → Parts P → Parts P → ℕ → ℕ → Type 0
   PartFollows s new parts after slot t =
       MatchBool (is_same_number (number_in s slot) (number_in new slot)) (part_at after slot t ≡ part_at parts slot t)
@@ -99,9 +100,11 @@ module _ {P : Type 0} (posted_of : P → Call) (goes : P → Own → Setup → R
     pub part : P
     pub before : part_at parts slot t ≡ Some part
     pub goes_on : MatchBool (is_live (process_of mid.processes process.number))
-        ((next : P) × PartGoes script mid process.number t part reply event next new × (part_at after slot t ≡ Some next))
+        ((next : P) × PartGoes script mid process.number t part reply event next new
+        × (part_at after slot t ≡ Some next))
         ((new ≡ mid) × (event ≡ None) × PartFollows s new parts after slot t)
-    pub others : (other_slot other : ℕ) → (other_slot ≢ slot) ⊎ (other ≢ t) → PartFollows s new parts after other_slot other
+    pub others : (other_slot other : ℕ) → (other_slot ≢ slot) ⊎ (other ≢ t)
+        → PartFollows s new parts after other_slot other
 
   -- all parts follow
   abbrev pub AllFollow : Win32State → Win32State → Parts P → Parts P → Type 0
@@ -118,8 +121,8 @@ module _ {P : Type 0} (posted_of : P → Call) (goes : P → Own → Setup → R
   Rests d called came new = (called ≡ None) × (came ≡ outcome.Idle) × (new.win32 ≡ d.win32) × (new.last ≡ None)
       × (new.parts ≡ d.parts)
 
-  -- what a directive does to a machine that is driven by parts, with the call and the outcome of its entry; the event of
-  -- the entry is `new.last`
+  -- what a directive does to a machine that is driven by parts, with the call and the outcome of its entry; the event
+  -- of the entry is `new.last`
   abbrev pub DrivenBy : Script → DrivenState P → Directive → Option Call → Outcome → DrivenState P → Type 0
   DrivenBy script d (directive.Turn slot t) called came new =
       MatchBool (is_ready d.win32 slot t) (ReadyTurnOf script d slot t called came new) (Rests d called came new)

@@ -31,10 +31,12 @@ MayExchange _ = ⊥
 
 -- a new object is no second one where there is one at most
 abbrev pub IsOnly : Win32State → Object → Type 0
-IsOnly s x = (b : ℕ) (y : Object) (k : ℕ) → object_of s.objects b ≡ Some y → only_number x ≡ Some k → only_number y ≡ Some k → ⊥
+IsOnly s x = (b : ℕ) (y : Object) (k : ℕ) → object_of s.objects b ≡ Some y → only_number x ≡ Some k
+    → only_number y ≡ Some k → ⊥
 
--- What a call of thread t of process w does: it leaves handles, lives and kinds alone; or there is a handle on an object
--- that is listed, on a new object, on both ends of a new pipe, or on a new process; or a handle is closed; or a process ends.
+-- What a call of thread t of process w does: it leaves handles, lives and kinds alone; or there is a handle on an
+-- object that is listed, on a new object, on both ends of a new pipe, or on a new process; or a handle is closed; or
+-- a process ends.
 pub data CallEffect (script : Script) (s : Win32State) (w t : ℕ) (c : Call) (new : Win32State) : Type 0 where
   Changes : IsTame script (MayWrite s w c) (MayExchange c) w t s new → CallEffect script s w t c new
   Opens : (names : ℕ) → IsListed s.objects names → is_full (handles_by s w) 1 ≡ false → (answer : ℕ → Reply) (r : Reply)
@@ -43,7 +45,10 @@ pub data CallEffect (script : Script) (s : Win32State) (w t : ℕ) (c : Call) (n
       → IsNewObject s w x r new → CallEffect script s w t c new
   AddsPipe : is_full (handles_by s w) 2 ≡ false → (r : Reply) → IsNewPipe s w r new → CallEffect script s w t c new
   Makes : (slot program_no : ℕ) (program : Program) (list : List ℕ) (r : Reply)
-      → slice_get script.setup.programs program_no ≡ Some program → IsLowestFreeSlot script.setup.limits.slots s.processes slot
-      → is_full (handles_by s w) 1 ≡ false → IsMade s w slot program_no program list r new → CallEffect script s w t c new
+      → slice_get script.setup.programs program_no ≡ Some program
+      → IsLowestFreeSlot script.setup.limits.slots s.processes slot
+      → is_full (handles_by s w) 1 ≡ false → IsMade s w slot program_no program list r new
+      → CallEffect script s w t c new
   Closes : (h : ℕ) → new ≡ swept (with_handles s w (without_handle (handles_by s w) h)) → CallEffect script s w t c new
-  Ends : (v code : ℕ) → is_live (process_of s.processes v) ≡ true → new ≡ with_end s v code → CallEffect script s w t c new
+  Ends : (v code : ℕ) → is_live (process_of s.processes v) ≡ true → new ≡ with_end s v code
+      → CallEffect script s w t c new

@@ -37,11 +37,13 @@ is_process_held (x ∷ xs) w = is_object_of x.object w || is_process_held xs w
 -- the processes that live or whose object is among these
 abbrev pub kept_processes : List NumberedObject → List Process → List Process
 kept_processes os [] = []
-kept_processes os (p ∷ ps) = if is_alive p.life || is_process_held os p.number then p ∷ kept_processes os ps else kept_processes os ps
+kept_processes os (p ∷ ps) = if is_alive p.life || is_process_held os p.number then p ∷ kept_processes os ps
+    else kept_processes os ps
 
 -- the state without what nobody names: such objects, and then such ended processes
 abbrev pub swept : Win32State → Win32State
-swept s = let os = held_objects s.processes s.objects in record s { processes = kept_processes os s.processes; objects = os }
+swept s = let os = held_objects s.processes s.objects in
+    record s { processes = kept_processes os s.processes; objects = os }
 
 -- what the end of process w leaves of an object: a mutex that it owns is abandoned
 abbrev pub object_left_by : ℕ → Object → Object

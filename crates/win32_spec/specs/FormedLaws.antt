@@ -1,40 +1,51 @@
--- Well-formed states stay so under a change of handles, an object more, a process more, an end, and a sweep.
-use Rattle.std.proofs.Common.{◌≡◌, ◌≢◌, ◌⊎◌, inl, inr, ℕ, true, false, List, Option, Some, None, MatchOption, refl, sym, ap, ◌∙◌, subst, arith}
+-- Well-formed states stay so under a change of handles and with one more object.
+use Rattle.std.proofs.Common.{◌≡◌, ◌≢◌, ◌⊎◌, inl, inr, ℕ, true, List, Option, Some, None, MatchOption, refl, sym, ap, ◌∙◌, subst, arith}
 use Rattle.std.proofs.lemmas.Bool.{cases_eq}
 use Rattle.script_spec.specs.declared.script.Script.{Script}
 use Rattle.win32_spec.specs.Handles.{Handle, handle_of, AreRisingFrom}
 use Rattle.win32_spec.specs.Objects.{Free, Owned, Abandoned}
 use Rattle.win32_spec.specs.State.{Object, Section, Event, Mutex, Pipe, ProcessObject, TerminalObject, NumberedObject, Life, Alive, Ended, Process, Win32State}
 use Rattle.win32_spec.specs.Lookup.{is_alive, process_of, is_live, object_number, object_of, change_process, add_object, with_handles, with_new_object, IsFresh}
-use Rattle.win32_spec.specs.Ends.{object_left_by, objects_left_by, ended_process, with_ended}
-use Rattle.win32_spec.specs.WellFormed.{IsHost, IsLayerProcess, has_ends, FitsEnd, IsListed, IsLiveProcess, IsProcessBy, IsObject, only_number, IsFormed}
-use Rattle.win32_spec.specs.LookupLaws.{same, differs, same_some, not_none, process_of-change_same, process_of-change_other, changed_process, rising-change_process}
-use Rattle.win32_spec.specs.ObjectLaws.{object_of-add_new, object_of-add_other, rising-add_object, object_of-left, left_object, rising-left}
+use Rattle.win32_spec.specs.WellFormed.{IsHost, IsLayerProcess, FitsEnd, IsListed, IsLiveProcess, IsProcessBy, IsObject, only_number, IsFormed}
+use Rattle.win32_spec.specs.LookupLaws.{same_some, not_none, process_of-change_same, process_of-change_other, changed_process, rising-change_process}
+use Rattle.win32_spec.specs.ObjectLaws.{object_of-add_new, object_of-add_other, rising-add_object}
 use Rattle.win32_spec.specs.HeldLaws.{HaveRisingHandles}
 
 -- of a live process, what a live one keeps to; and of one that has ended, what an ended one does
-pub of_live : (script : Script) (xs : List NumberedObject) (p : Process) (life : Life) → is_alive life ≡ true → IsProcessBy script xs p life
+pub of_live : (script : Script) (xs : List NumberedObject) (p : Process) (life : Life) → is_alive life ≡ true
+    → IsProcessBy script xs p life
     → IsLiveProcess script xs p
 of_live script xs p Alive e h = h
 of_live script xs p (Ended code) e h = absurd (cc)
 
-pub to_live : (script : Script) (xs : List NumberedObject) (p : Process) (life : Life) → is_alive life ≡ true → IsLiveProcess script xs p
+pub to_live : (script : Script) (xs : List NumberedObject) (p : Process) (life : Life) → is_alive life ≡ true
+    → IsLiveProcess script xs p
     → IsProcessBy script xs p life
 to_live script xs p Alive e h = h
 to_live script xs p (Ended code) e h = absurd (cc)
 
 -- a live process, and the same where more objects are listed
 pub with_objects : (script : Script) (xs ys : List NumberedObject) (p : Process) (life : Life)
-    → ((names : ℕ) → IsListed xs names → IsListed ys names) → IsProcessBy script xs p life → IsProcessBy script ys p life
+    → ((names : ℕ) → IsListed xs names → IsListed ys names) → IsProcessBy script xs p life
+    → IsProcessBy script ys p life
 with_objects script xs ys p Alive more h =
-    record { kind = h.kind; threads = h.threads; rising = h.rising; naming = λ k names e. more names (h.naming k names e) }
-with_objects script xs ys p (Ended code) more h = record { threads = h.threads; handles = h.handles; own = h.own; placed = h.placed }
+    record {
+      kind = h.kind;
+      threads = h.threads;
+      rising = h.rising;
+      naming =
+          λ k names e. more names (h.naming k names e);
+    }
+with_objects script xs ys p (Ended code) more h =
+    record { threads = h.threads; handles = h.handles; own = h.own; placed = h.placed }
 
 -- a listed object, by its lookup
-pub to_listed : (xs : List NumberedObject) (names : ℕ) (x : Object) → object_of xs (object_number names) ≡ Some x → FitsEnd names x → IsListed xs names
+pub to_listed : (xs : List NumberedObject) (names : ℕ) (x : Object) → object_of xs (object_number names) ≡ Some x
+    → FitsEnd names x → IsListed xs names
 to_listed xs names x e fits = subst (λ o. MatchOption o ⊥ (FitsEnd names)) (sym e) fits
 
-pub from_listed : (xs : List NumberedObject) (names : ℕ) → IsListed xs names → (x : Object) × (object_of xs (object_number names) ≡ Some x) × FitsEnd names x
+pub from_listed : (xs : List NumberedObject) (names : ℕ) → IsListed xs names
+    → (x : Object) × (object_of xs (object_number names) ≡ Some x) × FitsEnd names x
 from_listed xs names h = by_answer (object_of xs (object_number names)) refl h
   where
     by_answer : (o : Option Object) → object_of xs (object_number names) ≡ o → MatchOption o ⊥ (FitsEnd names)
@@ -55,7 +66,8 @@ found_live o p e alive = rw e alive
 
 -- Of an object's rule over other processes: each process is still there, and alive where it was.
 pub object_over : (ps qs : List Process) (x : Object)
-    → ((v : ℕ) (p : Process) → process_of ps v ≡ Some p → (q : Process) × (process_of qs v ≡ Some q) × (q.life ≡ p.life))
+    → ((v : ℕ) (p : Process) → process_of ps v ≡ Some p
+    → (q : Process) × (process_of qs v ≡ Some q) × (q.life ≡ p.life))
     → IsObject ps x → IsObject qs x
 object_over ps qs (Section words) stays i = i
 object_over ps qs (Event e) stays i = tt
@@ -81,7 +93,16 @@ module _ (script : Script) (s : Win32State) (w : ℕ) (p : Process) (hs : List H
           → MatchOption o (IsHost (record p { handles = hs })) (IsLayerProcess script (record p { handles = hs }))
       by_program None k = record { number = k.number; slot = k.slot; sizes = k.sizes; placed = k.placed }
       by_program (Some n) k =
-          record { number = k.number; from_one = k.from_one; most = k.most; program = k.program; listed = k.listed; sizes = k.sizes; placed = k.placed }
+          record {
+            number = k.number;
+            from_one = k.from_one;
+            most = k.most;
+            program = k.program;
+            listed =
+                k.listed;
+            sizes = k.sizes;
+            placed = k.placed;
+          }
 
   its_live : IsProcessBy script s.objects (record p { handles = hs }) p.life
   its_live =
@@ -94,42 +115,67 @@ module _ (script : Script) (s : Win32State) (w : ℕ) (p : Process) (hs : List H
       let inversion = changed_process w (λ q. record q { handles = hs }) (λ q. refl) s.processes in
       record {
         next = h.next;
-        processes = rising-change_process w (λ q. record q { handles = hs }) (λ q. refl) 1 s.next s.processes h.processes;
+        processes = rising-change_process w (λ q. record q { handles = hs }) (λ q. refl) 1 s.next s.processes
+            h.processes;
         objects = h.objects;
         process = λ v q e. elim (inversion v q e) [
           | inl other ↦ h.process v q other.1
           | inr this ↦
               let g : p ≡ this.1 = same_some (process_of s.processes w) p this.1 found this.2 in
-              subst (λ (x : Process). IsProcessBy script s.objects x x.life) (ap (λ (x : Process). record x { handles = hs }) g ∙ sym this.3) its_live
+              subst (λ (x : Process). IsProcessBy script s.objects x x.life)
+              (ap (λ (x : Process). record x { handles = hs }) g ∙ sym this.3) its_live
         ];
         one_a_slot = λ u v q r e f a b c.
-            let old = λ (x : ℕ) (y : Process) (i : process_of (change_process w (λ q. record q { handles = hs }) s.processes) x ≡ Some y). before_it x y i in
+            let old = λ (x : ℕ) (y : Process)
+            (i : process_of (change_process w (λ q. record q { handles = hs }) s.processes) x ≡ Some y). before_it
+            x y i in
             let q0 = old u q e in let r0 = old v r f in
             h.one_a_slot u v q0.0 r0.0 q0.1 r0.1 (rw q0.2 a) (rw r0.2 b) (q0.3 ∙ c ∙ sym r0.3);
         object = λ o x e.
-            object_over s.processes (change_process w (λ q. record q { handles = hs }) s.processes) x after_it (h.object o x e);
+            object_over s.processes (change_process w (λ q. record q { handles = hs }) s.processes) x after_it
+            (h.object o x e);
         only = h.only;
       }
     where
-      before_it : (x : ℕ) (y : Process) → process_of (change_process w (λ q. record q { handles = hs }) s.processes) x ≡ Some y
+      before_it : (x : ℕ) (y : Process)
+          → process_of (change_process w (λ q. record q { handles = hs }) s.processes) x ≡ Some y
           → (z : Process) × (process_of s.processes x ≡ Some z) × (z.life ≡ y.life) × (z.slot ≡ y.slot)
       before_it x y e =
           elim (changed_process w (λ q. record q { handles = hs }) (λ q. refl) s.processes x y e) [
             | inl other ↦ (y, other.1, refl, refl)
-            | inr this ↦ (this.1, rw this.0 this.2, ap (λ (z : Process). z.life) (sym this.3), ap (λ (z : Process). z.slot) (sym this.3))
+            | inr this ↦ (
+              this.1,
+              rw this.0 this.2,
+              ap (λ (z : Process). z.life) (sym this.3),
+              ap
+                  (λ (z : Process). z.slot) (sym this.3),
+            )
           ]
 
       after_it : (x : ℕ) (y : Process) → process_of s.processes x ≡ Some y
-          → (z : Process) × (process_of (change_process w (λ q. record q { handles = hs }) s.processes) x ≡ Some z) × (z.life ≡ y.life)
+          → (z : Process) × (process_of (change_process w (λ q. record q { handles = hs }) s.processes) x ≡ Some z)
+          × (z.life ≡ y.life)
       after_it x y e =
           elim (cases_eq x w) [
-            | inl n ↦ (record y { handles = hs }, rw n (process_of-change_same w (λ q. record q { handles = hs }) (λ q. refl) s.processes y (rw n at e)), refl)
-            | inr d ↦ (y, process_of-change_other w (λ q. record q { handles = hs }) (λ q. refl) s.processes x d ∙ e, refl)
+            | inl n ↦ (
+              record y { handles = hs },
+              rw n
+                  (process_of-change_same w (λ q. record q { handles = hs }) (λ q. refl) s.processes y (rw n at e)),
+              refl,
+            )
+            | inr d ↦ (
+              y,
+              process_of-change_other w (λ q. record q { handles = hs }) (λ q. refl) s.processes x d
+                  ∙ e,
+              refl,
+            )
           ]
 
 -- One more object, which nobody holds yet: its rule holds, and it is no second one where there is one at most.
-pub formed-with_new_object : (script : Script) (s : Win32State) (o : ℕ) (x : Object) → IsFormed script s → IsFresh s o → IsObject s.processes x
-    → ((b : ℕ) (y : Object) (k : ℕ) → object_of s.objects b ≡ Some y → only_number x ≡ Some k → only_number y ≡ Some k → ⊥)
+pub formed-with_new_object : (script : Script) (s : Win32State) (o : ℕ) (x : Object) → IsFormed script s → IsFresh s o
+    → IsObject s.processes x
+    → ((b : ℕ) (y : Object) (k : ℕ) → object_of s.objects b ≡ Some y → only_number x ≡ Some k → only_number y ≡ Some k
+    → ⊥)
     → IsFormed script (with_new_object s o x)
 formed-with_new_object script s o x h fresh rule only = record {
   next = h.next;
@@ -137,7 +183,8 @@ formed-with_new_object script s o x h fresh rule only = record {
   objects = rising-add_object o x 0 s.objects h.objects (omega arith) fresh.even fresh.free;
   process = λ v p e. with_objects script s.objects new p p.life more (h.process v p e);
   one_a_slot = h.one_a_slot;
-  object = λ a y e. elim (which a y e) [ inl old ↦ h.object a y old.1 | inr this ↦ subst (λ z. IsObject s.processes z) (sym this.1) rule ];
+  object = λ a y e. elim (which a y e)
+      [ inl old ↦ h.object a y old.1 | inr this ↦ subst (λ z. IsObject s.processes z) (sym this.1) rule ];
   only = λ a b y z k e f m n.
       elim (which a y e) [
         | inl old ↦ elim (which b z f) [
@@ -158,7 +205,11 @@ formed-with_new_object script s o x h fresh rule only = record {
         → ((a ≢ o) × (object_of s.objects a ≡ Some y)) ⊎ ((a ≡ o) × (y ≡ x))
     which a y e =
         elim (cases_eq a o) [
-          | inl n ↦ inr (n, same_some (object_of (add_object o x s.objects) o) y x (rw n at e) (object_of-add_new o x s.objects fresh.free))
+          | inl n ↦ inr (
+            n,
+            same_some (object_of (add_object o x s.objects) o) y x (rw n at e)
+                (object_of-add_new o x s.objects fresh.free),
+          )
           | inr d ↦ inl (d, sym (object_of-add_other o x s.objects a d) ∙ e)
         ]
 
@@ -166,77 +217,5 @@ formed-with_new_object script s o x h fresh rule only = record {
     more names listed =
         let at = from_listed s.objects names listed in
         let apart = λ (n : object_number names ≡ o). not_none (object_of s.objects o) at.0 (rw n at at.1) fresh.free in
-        to_listed (add_object o x s.objects) names at.0 (object_of-add_other o x s.objects (object_number names) apart ∙ at.1) at.2
-
--- The end of a process: what it leaves of each object is of the same kind.
-pub only_number-left : (w : ℕ) (x : Object) → only_number (object_left_by w x) ≡ only_number x
-only_number-left w (Section words) = refl
-only_number-left w (Event e) = refl
-only_number-left w (Mutex owner) = refl
-only_number-left w (Pipe bytes) = refl
-only_number-left w (ProcessObject v) = refl
-only_number-left w (TerminalObject terminal) = refl
-
-pub has_ends-left : (w : ℕ) (x : Object) → has_ends (object_left_by w x) ≡ has_ends x
-has_ends-left w (Section words) = refl
-has_ends-left w (Event e) = refl
-has_ends-left w (Mutex owner) = refl
-has_ends-left w (Pipe bytes) = refl
-has_ends-left w (ProcessObject v) = refl
-has_ends-left w (TerminalObject terminal) = refl
-
-module _ (script : Script) (s : Win32State) (w code : ℕ) (p : Process) (h : IsFormed script s) (found : process_of s.processes w ≡ Some p) where
-  -- a process after the end is another one, or this one
-  ended_which : (v : ℕ) (q : Process) → process_of (change_process w (ended_process code) s.processes) v ≡ Some q
-      → ((v ≢ w) × (process_of s.processes v ≡ Some q)) ⊎ ((v ≡ w) × (r : Process) × (process_of s.processes w ≡ Some r) × (q ≡ ended_process code r))
-  ended_which = changed_process w (ended_process code) (λ q. refl) s.processes
-
-  ended_object : (x : Object) → IsObject s.processes x → IsObject (change_process w (ended_process code) s.processes) (object_left_by w x)
-  ended_object (Section words) i = i
-  ended_object (Event e) i = tt
-  ended_object (Mutex Free) i = tt
-  ended_object (Mutex Abandoned) i = tt
-  ended_object (Mutex (Owned v t)) i =
-      elim (cases_eq v w) [
-        | inl n ↦ let e = same v w n in rw e tt
-        | inr d ↦ let e = differs v w d in
-            rw e (rw (process_of-change_other w (ended_process code) (λ q. refl) s.processes v d) i.0, i.1)
-      ]
-  ended_object (Pipe bytes) i = i
-  ended_object (ProcessObject v) i =
-      elim (cases_eq v w) [
-        | inl n ↦ (ended_process code p, rw n (process_of-change_same w (ended_process code) (λ q. refl) s.processes p found))
-        | inr d ↦ (i.0, process_of-change_other w (ended_process code) (λ q. refl) s.processes v d ∙ i.1)
-      ]
-  ended_object (TerminalObject terminal) i = tt
-
-  ended_listed : (names : ℕ) → IsListed s.objects names → IsListed (objects_left_by w s.objects) names
-  ended_listed names listed =
-      let at = from_listed s.objects names listed in
-      to_listed (objects_left_by w s.objects) names (object_left_by w at.0) (object_of-left w s.objects (object_number names) at.0 at.1)
-      (λ e. at.2 (sym (has_ends-left w at.0) ∙ e))
-
-  pub formed-with_ended : IsFormed script (with_ended s w code)
-  formed-with_ended = record {
-    next = h.next;
-    processes = rising-change_process w (ended_process code) (λ q. refl) 1 s.next s.processes h.processes;
-    objects = rising-left w 0 s.objects h.objects;
-    process = λ v q e. elim (ended_which v q e) [
-      | inl other ↦ with_objects script s.objects (objects_left_by w s.objects) q q.life ended_listed (h.process v q other.1)
-      | inr this ↦ subst (λ (x : Process). IsProcessBy script (objects_left_by w s.objects) x x.life) (sym this.3)
-          (record { threads = refl; handles = refl; own = refl; placed = refl })
-    ];
-    one_a_slot = λ u v q r e f a b c. elim (ended_which u q e) [
-      | inl other ↦ elim (ended_which v r f) [
-        | inl that ↦ h.one_a_slot u v q r other.1 that.1 a b c
-        | inr this ↦ absurd (let g : false ≡ true = rw this.3 at b in cc)
-      ]
-      | inr this ↦ absurd (let g : false ≡ true = rw this.3 at a in cc)
-    ];
-    object = λ o y e. let x = left_object w s.objects o y e in
-        subst (λ z. IsObject (change_process w (ended_process code) s.processes) z) (sym x.2) (ended_object x.0 (h.object o x.0 x.1));
-    only = λ a b y z k e f m n.
-        let x = left_object w s.objects a y e in let u = left_object w s.objects b z f in
-        h.only a b x.0 u.0 k x.1 u.1
-        (sym (only_number-left w x.0) ∙ ap only_number (sym x.2) ∙ m) (sym (only_number-left w u.0) ∙ ap only_number (sym u.2) ∙ n);
-  }
+        to_listed (add_object o x s.objects) names at.0
+        (object_of-add_other o x s.objects (object_number names) apart ∙ at.1) at.2

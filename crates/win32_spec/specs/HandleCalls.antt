@@ -11,8 +11,8 @@ use Rattle.win32_spec.specs.Ready.{is_handle_signalled}
 use Rattle.win32_spec.specs.Named.{handles_by, named_by, object_number_by, object_by, process_named, has_absent, Gives, GetsHandle}
 use Rattle.win32_spec.specs.ProcessCalls.{live_process}
 
--- `dup H N`: a handle of the caller on what handle N of process H is, by the same end or face. Refusals: badhandle of H,
--- gone, badhandle of N, tablefull.
+-- `dup H N`: a handle of the caller on what handle N of process H is, by the same end or face. Refusals: badhandle of
+-- H, gone, badhandle of N, tablefull.
 abbrev pub DupStep : Win32State → ℕ → ℕ → ℕ → Reply → Win32State → Type 0
 DupStep s w h n r new =
     MatchOption (process_named (object_by s w h)) (Gives reply.BadHandle s r new) (λ v.
@@ -64,4 +64,5 @@ TakesObject s w t h n r new =
 abbrev pub WaitStep : Win32State → ℕ → ℕ → List ℕ → Reply → Win32State → Type 0
 WaitStep s w t list r new =
     MatchBool (has_absent (handles_by s w) list) (Gives reply.BadHandle s r new)
-    (MatchOption (first_signalled s w t (handles_by s w) list 0) ⊥ (λ n. TakesObject s w t (slice_index list n) n r new))
+    (MatchOption (first_signalled s w t (handles_by s w) list 0) ⊥
+    (λ n. TakesObject s w t (slice_index list n) n r new))

@@ -24,7 +24,8 @@ use Rattle.win32_spec.specs.ObjectEffects.{made_effect}
 
 -- the object of process v, by the test and by its number
 pub is_its_object : (x : Object) (v : ℕ) → is_object_of x v ≡ true → x ≡ ProcessObject v
-is_its_object (ProcessObject u) v t = elim (cases_eq u v) [ inl n ↦ ap ProcessObject n | inr d ↦ let s = differs u v d in absurd (cc) ]
+is_its_object (ProcessObject u) v t =
+    elim (cases_eq u v) [ inl n ↦ ap ProcessObject n | inr d ↦ let s = differs u v d in absurd (cc) ]
 is_its_object (Section words) v t = absurd (cc)
 is_its_object (Event e) v t = absurd (cc)
 is_its_object (Mutex owner) v t = absurd (cc)
@@ -39,20 +40,25 @@ only_process (Event e) v f = absurd (cc)
 only_process (Mutex owner) v e = absurd (cc)
 only_process (Pipe bytes) v e = absurd (cc)
 
-process_object-found : (low : ℕ) (xs : List NumberedObject) (v o : ℕ) → AreRisingObjects low xs → process_object xs v ≡ Some o
+process_object-found : (low : ℕ) (xs : List NumberedObject) (v o : ℕ) → AreRisingObjects low xs
+    → process_object xs v ≡ Some o
     → object_of xs o ≡ Some (ProcessObject v)
 process_object-found low [] v o r e = absurd (cc)
-process_object-found low (x ∷ xs) v o r e = by_test (is_object_of x.object v) refl e (process_object-found (x.number + 1) xs v o r.2)
+process_object-found low (x ∷ xs) v o r e =
+    by_test (is_object_of x.object v) refl e (process_object-found (x.number + 1) xs v o r.2)
   where
     by_test : (b : Bool) → is_object_of x.object v ≡ b → (if b then Some x.number else process_object xs v) ≡ Some o
-        → (process_object xs v ≡ Some o → object_of xs o ≡ Some (ProcessObject v)) → object_of (x ∷ xs) o ≡ Some (ProcessObject v)
-    by_test true t f rest = let n : x.number ≡ o = cc in let s = same x.number o n in rw s (ap Some (is_its_object x.object v t))
+        → (process_object xs v ≡ Some o → object_of xs o ≡ Some (ProcessObject v))
+        → object_of (x ∷ xs) o ≡ Some (ProcessObject v)
+    by_test true t f rest = let n : x.number ≡ o = cc in let s = same x.number o n in
+        rw s (ap Some (is_its_object x.object v t))
     by_test false t f rest =
         let found = rest f in
         let b = rising_objects-bound (x.number + 1) xs o (ProcessObject v) r.2 found in
         let s = differs x.number o (λ n. omega (arith, b.0)) in rw s found
 
-process_object-none : (xs : List NumberedObject) (v b : ℕ) → process_object xs v ≡ None → object_of xs b ≡ Some (ProcessObject v) → ⊥
+process_object-none : (xs : List NumberedObject) (v b : ℕ) → process_object xs v ≡ None
+    → object_of xs b ≡ Some (ProcessObject v) → ⊥
 process_object-none [] v b e f = cc
 process_object-none (x ∷ xs) v b e f = by_test (is_object_of x.object v) refl e (process_object-none xs v b)
   where
@@ -70,12 +76,15 @@ process_object-none (x ∷ xs) v b e f = by_test (is_object_of x.object v) refl 
         ]
 
 -- a handle on a listed object
-handle_effect : (script : Script) (s : Win32State) (w t : ℕ) (c : Call) (names : ℕ) (r : Reply) (new : Win32State) → IsListed s.objects names
+handle_effect : (script : Script) (s : Win32State) (w t : ℕ) (c : Call) (names : ℕ) (r : Reply) (new : Win32State)
+    → IsListed s.objects names
     → GetsHandle s w names r new → CallEffect script s w t c new
 handle_effect script s w t c names r new listed step =
-    by_bool (is_full (handles_by s w) 1) (λ e m. unchanged script s w t c new m.1) (λ e m. Opens names listed e reply.Handle r m) step
+    by_bool (is_full (handles_by s w) 1) (λ e m. unchanged script s w t c new m.1)
+    (λ e m. Opens names listed e reply.Handle r m) step
 
-pub open_effect : (script : Script) (s : Win32State) (w t v : ℕ) (r : Reply) (new : Win32State) → IsFormed script s → OpenStep s w v r new
+pub open_effect : (script : Script) (s : Win32State) (w t v : ℕ) (r : Reply) (new : Win32State) → IsFormed script s
+    → OpenStep s w v r new
     → CallEffect script s w t (call.Open v) new
 open_effect script s w t v r new h step =
     by_option (process_object s.objects v) (λ none m.
@@ -90,7 +99,8 @@ open_effect script s w t v r new h step =
     handle_effect script s w t (call.Open v) o r new
     (to_listed s.objects o (ProcessObject v) (ap (object_of s.objects) bound.1 ∙ found) (λ e. bound.1)) m) step
 
-pub dup_effect : (script : Script) (s : Win32State) (w t h n : ℕ) (r : Reply) (new : Win32State) → IsFormed script s → DupStep s w h n r new
+pub dup_effect : (script : Script) (s : Win32State) (w t h n : ℕ) (r : Reply) (new : Win32State) → IsFormed script s
+    → DupStep s w h n r new
     → CallEffect script s w t (call.Dup h n) new
 dup_effect script s w t h n r new formed step =
     by_option (process_named (object_by s w h)) (λ e m. unchanged script s w t (call.Dup h n) new m.1) (λ v e m.
@@ -105,11 +115,14 @@ pub close_effect : (script : Script) (s : Win32State) (w t h : ℕ) (r : Reply) 
 close_effect script s w t h r new step =
     by_option (named_by s w h) (λ e m. unchanged script s w t (call.Close h) new m.1) (λ names e m. Closes h m.1) step
 
-pub create_effect : (script : Script) (s : Win32State) (w t program_no : ℕ) (list : List ℕ) (r : Reply) (new : Win32State)
+pub create_effect : (script : Script) (s : Win32State) (w t program_no : ℕ) (list : List ℕ) (r : Reply)
+    (new : Win32State)
     → CreateStep script s w program_no list r new → CallEffect script s w t (call.Create program_no list) new
 create_effect script s w t program_no list r new step =
-    by_bool (has_absent (handles_by s w) list) (λ e m. unchanged script s w t (call.Create program_no list) new m.1) (λ e m.
-    by_option (slice_get script.setup.programs program_no) (λ e m. unchanged script s w t (call.Create program_no list) new m.1) (λ program listed m.
+    by_bool (has_absent (handles_by s w) list) (λ e m. unchanged script s w t (call.Create program_no list) new m.1)
+    (λ e m.
+    by_option (slice_get script.setup.programs program_no)
+    (λ e m. unchanged script s w t (call.Create program_no list) new m.1) (λ program listed m.
     elim m [
       | inl full ↦ unchanged script s w t (call.Create program_no list) new full.1.1
       | inr makes ↦

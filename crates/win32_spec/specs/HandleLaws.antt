@@ -9,7 +9,8 @@ use Rattle.win32_spec.specs.Named.{is_full}
 use Rattle.win32_spec.specs.LookupLaws.{same, differs, before, not_before, or_true, or_left, or_right, not_none}
 
 -- the handle that is added names its object
-pub handle_of-with_same : (hs : List Handle) (h o : ℕ) → handle_of hs h ≡ None → handle_of (with_handle hs h o) h ≡ Some o
+pub handle_of-with_same : (hs : List Handle) (h o : ℕ) → handle_of hs h ≡ None
+    → handle_of (with_handle hs h o) h ≡ Some o
 handle_of-with_same [] h o free = let s = same h h refl in rw s
 handle_of-with_same (p ∷ hs) h o free =
     elim (cases_lt h p.number) [
@@ -24,7 +25,8 @@ handle_of-with_same (p ∷ hs) h o free =
     ]
 
 -- and every other one what it named
-pub handle_of-with_other : (hs : List Handle) (h o other : ℕ) → other ≢ h → handle_of (with_handle hs h o) other ≡ handle_of hs other
+pub handle_of-with_other : (hs : List Handle) (h o other : ℕ) → other ≢ h
+    → handle_of (with_handle hs h o) other ≡ handle_of hs other
 handle_of-with_other [] h o other d = let t = differs h other (λ e. d (sym e)) in rw t
 handle_of-with_other (p ∷ hs) h o other d =
     elim (cases_lt h p.number) [
@@ -42,7 +44,8 @@ handle_of-without_same (p ∷ hs) h =
     ]
 
 -- and every other one what it named
-pub handle_of-without_other : (hs : List Handle) (h other : ℕ) → other ≢ h → handle_of (without_handle hs h) other ≡ handle_of hs other
+pub handle_of-without_other : (hs : List Handle) (h other : ℕ) → other ≢ h
+    → handle_of (without_handle hs h) other ≡ handle_of hs other
 handle_of-without_other [] h other d = refl
 handle_of-without_other (p ∷ hs) h other d =
     elim (cases_eq p.number h) [
@@ -61,11 +64,13 @@ handle_of-below low (p ∷ hs) h rising l =
     rw s (handle_of-below (p.number + 1) hs h rising.2 (omega (arith, rising.0)))
 
 -- Rising numbers stay so.
-pub rising-lower_handles : (low lower : ℕ) (hs : List Handle) → lower ≤ low → AreRisingFrom low hs → AreRisingFrom lower hs
+pub rising-lower_handles : (low lower : ℕ) (hs : List Handle) → lower ≤ low → AreRisingFrom low hs
+    → AreRisingFrom lower hs
 rising-lower_handles low lower [] l r = tt
 rising-lower_handles low lower (p ∷ hs) l r = (omega (arith, r.0), r.1, r.2)
 
-pub rising-with : (low : ℕ) (hs : List Handle) (h o : ℕ) → AreRisingFrom low hs → low ≤ h → h ≤ 64 → handle_of hs h ≡ None
+pub rising-with : (low : ℕ) (hs : List Handle) (h o : ℕ) → AreRisingFrom low hs → low ≤ h → h ≤ 64
+    → handle_of hs h ≡ None
     → AreRisingFrom low (with_handle hs h o)
 rising-with low [] h o r l m free = (l, m, tt)
 rising-with low (p ∷ hs) h o r l m free =
@@ -81,16 +86,19 @@ rising-with low (p ∷ hs) h o r l m free =
       ]
     ]
 
-pub rising-without : (low : ℕ) (hs : List Handle) (h : ℕ) → AreRisingFrom low hs → AreRisingFrom low (without_handle hs h)
+pub rising-without : (low : ℕ) (hs : List Handle) (h : ℕ) → AreRisingFrom low hs
+    → AreRisingFrom low (without_handle hs h)
 rising-without low [] h r = tt
 rising-without low (p ∷ hs) h r =
     let rest = rising-without (p.number + 1) hs h r.2 in
     elim (cases_eq p.number h) [
-      | inl e ↦ let s = same p.number h e in rw s (rising-lower_handles (p.number + 1) low (without_handle hs h) (omega (arith, r.0)) rest)
+      | inl e ↦ let s = same p.number h e in
+          rw s (rising-lower_handles (p.number + 1) low (without_handle hs h) (omega (arith, r.0)) rest)
       | inr d ↦ let s = differs p.number h d in rw s (r.0, r.1, rest)
     ]
 
-pub rising-listed : (low : ℕ) (hs : List Handle) (ns : List ℕ) → AreRisingFrom low hs → AreRisingFrom low (listed_handles hs ns)
+pub rising-listed : (low : ℕ) (hs : List Handle) (ns : List ℕ) → AreRisingFrom low hs
+    → AreRisingFrom low (listed_handles hs ns)
 rising-listed low [] ns r = tt
 rising-listed low (p ∷ hs) ns r = by_test (is_listed ns p.number) (rising-listed (p.number + 1) hs ns r.2)
   where
@@ -100,13 +108,15 @@ rising-listed low (p ∷ hs) ns r = by_test (is_listed ns p.number) (rising-list
     by_test false rest = rising-lower_handles (p.number + 1) low (listed_handles hs ns) (omega (arith, r.0)) rest
 
 -- a handle that is handed on names what it named
-pub listed_handle : (low : ℕ) (hs : List Handle) (ns : List ℕ) (h o : ℕ) → AreRisingFrom low hs → handle_of (listed_handles hs ns) h ≡ Some o
+pub listed_handle : (low : ℕ) (hs : List Handle) (ns : List ℕ) (h o : ℕ) → AreRisingFrom low hs
+    → handle_of (listed_handles hs ns) h ≡ Some o
     → handle_of hs h ≡ Some o
 listed_handle low [] ns h o r e = absurd (cc)
 listed_handle low (p ∷ hs) ns h o r e = by_test (is_listed ns p.number) (listed_handle (p.number + 1) hs ns h o r.2) e
   where
     by_test : (b : Bool) → (handle_of (listed_handles hs ns) h ≡ Some o → handle_of hs h ≡ Some o)
-        → handle_of (if b then p ∷ listed_handles hs ns else listed_handles hs ns) h ≡ Some o → handle_of (p ∷ hs) h ≡ Some o
+        → handle_of (if b then p ∷ listed_handles hs ns else listed_handles hs ns) h ≡ Some o
+        → handle_of (p ∷ hs) h ≡ Some o
     by_test true rest f =
         elim (cases_eq p.number h) [
           | inl n ↦ let s = same p.number h n in rw s (rw s at f)
@@ -114,15 +124,18 @@ listed_handle low (p ∷ hs) ns h o r e = by_test (is_listed ns p.number) (liste
         ]
     by_test false rest f =
         elim (cases_eq p.number h) [
-          | inl n ↦ absurd (not_none (handle_of hs h) o (rest f) (handle_of-below (p.number + 1) hs h r.2 (omega arith)))
+          | inl n ↦ absurd (not_none (handle_of hs h) o (rest f)
+              (handle_of-below (p.number + 1) hs h r.2 (omega arith)))
           | inr d ↦ let s = differs p.number h d in rw s (rest f)
         ]
 
 -- the lowest free number isn't past the end of a table that has room
-pub lowest-within : (low : ℕ) (hs : List Handle) (h : ℕ) → AreRisingFrom low hs → ((k : ℕ) → low ≤ k → k < h → IsSome (handle_of hs k))
+pub lowest-within : (low : ℕ) (hs : List Handle) (h : ℕ) → AreRisingFrom low hs
+    → ((k : ℕ) → low ≤ k → k < h → IsSome (handle_of hs k))
     → h ≤ low + length hs
 lowest-within low [] h r used =
-    elim (cases_lt low h) [ inl l ↦ absurd (let e : false ≡ true = used low (omega arith) l in cc) | inr l ↦ omega arith ]
+    elim (cases_lt low h)
+    [ inl l ↦ absurd (let e : false ≡ true = used low (omega arith) l in cc) | inr l ↦ omega arith ]
 lowest-within low (p ∷ hs) h r used =
     elim (cases_lt low h) [
       | inr l ↦ omega arith
@@ -157,7 +170,8 @@ length-with (p ∷ hs) h o =
 pub named_object : (low : ℕ) (hs : List Handle) (o : ℕ) → AreRisingFrom low hs → names_object hs o ≡ true
     → (h : ℕ) × (names : ℕ) × (handle_of hs h ≡ Some names) × (object_number names ≡ o)
 named_object low [] o r e = absurd (cc)
-named_object low (p ∷ hs) o r e = by_test (or_true (nat_eq (object_number p.names) o) (names_object hs o) e) (named_object (p.number + 1) hs o r.2)
+named_object low (p ∷ hs) o r e =
+    by_test (or_true (nat_eq (object_number p.names) o) (names_object hs o) e) (named_object (p.number + 1) hs o r.2)
   where
     by_test : (nat_eq (object_number p.names) o ≡ true) ⊎ (names_object hs o ≡ true)
         → (names_object hs o ≡ true → (h : ℕ) × (names : ℕ) × (handle_of hs h ≡ Some names) × (object_number names ≡ o))
@@ -167,21 +181,26 @@ named_object low (p ∷ hs) o r e = by_test (or_true (nat_eq (object_number p.na
           p.number,
           p.names,
           rw s refl,
-          elim (cases_eq (object_number p.names) o) [ inl n ↦ n | inr d ↦ let u = differs (object_number p.names) o d in absurd (cc) ],
+          elim (cases_eq (object_number p.names) o)
+              [ inl n ↦ n | inr d ↦ let u = differs (object_number p.names) o d in absurd (cc) ],
         )
     by_test (inr t) rest =
         let found = rest t in
         elim (cases_eq p.number found.0) [
-          | inl n ↦ absurd (not_none (handle_of hs found.0) found.1 found.2 (handle_of-below (p.number + 1) hs found.0 r.2 (omega (arith, n))))
+          | inl n ↦ absurd (not_none (handle_of hs found.0) found.1 found.2
+              (handle_of-below (p.number + 1) hs found.0 r.2 (omega (arith, n))))
           | inr d ↦ let s = differs p.number found.0 d in (found.0, found.1, rw s found.2, found.3)
         ]
 
-pub names-object : (hs : List Handle) (h names o : ℕ) → handle_of hs h ≡ Some names → object_number names ≡ o → names_object hs o ≡ true
+pub names-object : (hs : List Handle) (h names o : ℕ) → handle_of hs h ≡ Some names → object_number names ≡ o
+    → names_object hs o ≡ true
 names-object [] h names o e n = absurd (cc)
 names-object (p ∷ hs) h names o e n =
     elim (cases_eq p.number h) [
-      | inl m ↦ let s = same p.number h m in let f : Some p.names ≡ Some names = rw s at e in let g : p.names ≡ names = cc in
-          or_left (nat_eq (object_number p.names) o) (names_object hs o) (same (object_number p.names) o (ap object_number g ∙ n))
+      | inl m ↦ let s = same p.number h m in let f : Some p.names ≡ Some names = rw s at e in
+          let g : p.names ≡ names = cc in
+          or_left (nat_eq (object_number p.names) o) (names_object hs o)
+          (same (object_number p.names) o (ap object_number g ∙ n))
       | inr d ↦ let s = differs p.number h d in
           or_right (nat_eq (object_number p.names) o) (names_object hs o) (names-object hs h names o (rw s at e) n)
     ]

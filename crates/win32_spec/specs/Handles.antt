@@ -14,7 +14,8 @@ handle_of (p ∷ ps) h = if nat_eq p.number h then Some p.names else handle_of p
 -- with one more handle, in its place by its number
 abbrev pub with_handle : List Handle → ℕ → ℕ → List Handle
 with_handle [] h o = record { number = h; names = o } ∷ []
-with_handle (p ∷ ps) h o = if nat_lt h p.number then record { number = h; names = o } ∷ p ∷ ps else p ∷ with_handle ps h o
+with_handle (p ∷ ps) h o = if nat_lt h p.number then record { number = h; names = o } ∷ p ∷ ps
+    else p ∷ with_handle ps h o
 
 -- without the handle of this number
 abbrev pub without_handle : List Handle → ℕ → List Handle

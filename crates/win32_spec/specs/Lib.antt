@@ -26,6 +26,7 @@ pub mod ObjectLaws
 pub mod HandleLaws
 pub mod HeldLaws
 pub mod FormedLaws
+pub mod EndFormedLaws
 pub mod SweptLaws
 pub mod Tame
 pub mod TameLaws
@@ -42,6 +43,7 @@ pub mod MadeLaws
 pub mod EffectLaws
 pub mod KeepLaws
 pub mod StepLaws
+pub mod PlacedLaws
 pub mod OpeningLaws
 pub mod OtherLaws
 pub mod EndedLaws

@@ -17,10 +17,12 @@ use Rattle.win32_spec.specs.FormedLaws.{with_objects, to_listed, from_listed, ob
 use Rattle.win32_spec.specs.HandleEffects.{only_process}
 
 -- the sizes of a new memory
-pub sizes-new_memory : (n : ℕ) (program : Program) → HasSizes (new_memory n program) 64 program.heap program.stack 288 512
+pub sizes-new_memory : (n : ℕ) (program : Program)
+    → HasSizes (new_memory n program) 64 program.heap program.stack 288 512
 unfolding new_memory
 sizes-new_memory n program = record {
-  dat_size = length-with_word (replicate 64 0) 40 n (omega (arith, length-replicate {A = ℕ} 64 0)) ∙ length-replicate {A = ℕ} 64 0;
+  dat_size = length-with_word (replicate 64 0) 40 n (omega (arith, length-replicate {A = ℕ} 64 0))
+      ∙ length-replicate {A = ℕ} 64 0;
   heap_size = length-replicate {A = ℕ} program.heap 0;
   stack_size = length-replicate {A = ℕ} program.stack 0;
   cyg_size = length-replicate {A = ℕ} 288 0;
@@ -31,18 +33,21 @@ pub threads-new : (slot count : ℕ) → 1 ≤ slot → count ≤ 100 → AreThr
 threads-new zero count l m = absurd (omega arith)
 threads-new (suc slot) count l m = (refl, m, (refl, omega arith, (refl, omega arith, tt)))
 
-module _ (script : Script) (s : Win32State) (o slot program_no : ℕ) (program : Program) (hs : List Handle) (h : IsFormed script s)
+module _ (script : Script) (s : Win32State) (o slot program_no : ℕ) (program : Program) (hs : List Handle)
+    (h : IsFormed script s)
     (fresh : IsFresh s o) (listed : slice_get script.setup.programs program_no ≡ Some program)
     (lowest : IsLowestFreeSlot script.setup.limits.slots s.processes slot) (rising : AreRisingFrom 1 hs)
     (naming : (k names : ℕ) → handle_of hs k ≡ Some names → IsListed s.objects names) where
   made_listed : (names : ℕ) → IsListed s.objects names → IsListed (add_object o (ProcessObject s.next) s.objects) names
   made_listed names l =
       let at = from_listed s.objects names l in
-      let apart = λ (n : object_number names ≡ o). not_none (object_of s.objects o) at.0 (ap (λ k. object_of s.objects k) (sym n) ∙ at.1) fresh.free in
+      let apart = λ (n : object_number names ≡ o). not_none (object_of s.objects o) at.0
+      (ap (λ k. object_of s.objects k) (sym n) ∙ at.1) fresh.free in
       to_listed (add_object o (ProcessObject s.next) s.objects) names at.0
       (object_of-add_other o (ProcessObject s.next) s.objects (object_number names) apart ∙ at.1) at.2
 
-  made_live : IsLiveProcess script (add_object o (ProcessObject s.next) s.objects) (new_process s.next slot program_no program 1 hs)
+  made_live : IsLiveProcess script (add_object o (ProcessObject s.next) s.objects)
+      (new_process s.next slot program_no program 1 hs)
   made_live = record {
     kind = record {
       number = omega (arith, h.next);
@@ -61,18 +66,25 @@ module _ (script : Script) (s : Win32State) (o slot program_no : ℕ) (program :
   made_free : process_of s.processes s.next ≡ None
   made_free = rising-absent 1 s.next s.processes s.next h.processes (inr (omega arith))
 
-  made_which : (v : ℕ) (q : Process) → process_of (add_process (new_process s.next slot program_no program 1 hs) s.processes) v ≡ Some q
-      → ((v ≢ s.next) × (process_of s.processes v ≡ Some q)) ⊎ ((v ≡ s.next) × (q ≡ new_process s.next slot program_no program 1 hs))
+  made_which : (v : ℕ) (q : Process)
+      → process_of (add_process (new_process s.next slot program_no program 1 hs) s.processes) v ≡ Some q
+      → ((v ≢ s.next) × (process_of s.processes v ≡ Some q))
+      ⊎ ((v ≡ s.next) × (q ≡ new_process s.next slot program_no program 1 hs))
   made_which v q e =
       elim (cases_eq v s.next) [
         | inl n ↦ inr (
           n,
           same_some (process_of (add_process (new_process s.next slot program_no program 1 hs) s.processes) s.next) q
               (new_process s.next slot program_no program 1 hs)
-              (ap (λ k. process_of (add_process (new_process s.next slot program_no program 1 hs) s.processes) k) (sym n) ∙ e)
+              (ap (λ k. process_of (add_process (new_process s.next slot program_no program 1 hs) s.processes) k)
+              (sym n) ∙ e)
               (process_of-add_new (new_process s.next slot program_no program 1 hs) s.processes made_free),
         )
-        | inr d ↦ inl (d, sym (process_of-add_other (new_process s.next slot program_no program 1 hs) s.processes v d) ∙ e)
+        | inr d ↦ inl (
+          d,
+          sym (process_of-add_other (new_process s.next slot program_no program 1 hs) s.processes v d)
+              ∙ e,
+        )
       ]
 
   object_which : (a : ℕ) (y : Object) → object_of (add_object o (ProcessObject s.next) s.objects) a ≡ Some y
@@ -89,7 +101,8 @@ module _ (script : Script) (s : Win32State) (o slot program_no : ℕ) (program :
       ]
 
   -- no object is that of the next process yet
-  next_unnamed : (a : ℕ) (y : Object) (k : ℕ) → object_of s.objects a ≡ Some y → only_number y ≡ Some k → Some (s.next + 2) ≡ Some k → ⊥
+  next_unnamed : (a : ℕ) (y : Object) (k : ℕ) → object_of s.objects a ≡ Some y → only_number y ≡ Some k
+      → Some (s.next + 2) ≡ Some k → ⊥
   next_unnamed a y k e f g =
       let is : y ≡ ProcessObject s.next = only_process y s.next (f ∙ sym g) in
       let p = subst (IsObject s.processes) is (h.object a y e) in
@@ -98,28 +111,41 @@ module _ (script : Script) (s : Win32State) (o slot program_no : ℕ) (program :
   pub formed-with_made : IsFormed script (with_made s o (new_process s.next slot program_no program 1 hs))
   formed-with_made = record {
     next = omega (arith, h.next);
-    processes = rising-add_process 1 s.next (new_process s.next slot program_no program 1 hs) s.processes h.processes (omega (arith, h.next)) refl;
+    processes = rising-add_process 1 s.next (new_process s.next slot program_no program 1 hs) s.processes h.processes
+        (omega (arith, h.next)) refl;
     objects = rising-add_object o (ProcessObject s.next) 0 s.objects h.objects (omega arith) fresh.even fresh.free;
     process = λ v q e. elim (made_which v q e) [
-      | inl old ↦ with_objects script s.objects (add_object o (ProcessObject s.next) s.objects) q q.life made_listed (h.process v q old.1)
+      | inl old ↦ with_objects script s.objects (add_object o (ProcessObject s.next) s.objects) q q.life made_listed
+          (h.process v q old.1)
       | inr this ↦
-          subst (λ (x : Process). IsProcessBy script (add_object o (ProcessObject s.next) s.objects) x x.life) (sym this.1) made_live
+          subst (λ (x : Process). IsProcessBy script (add_object o (ProcessObject s.next) s.objects) x x.life)
+          (sym this.1) made_live
     ];
     one_a_slot = λ u v q r e f a b c. elim (made_which u q e) [
       | inl old ↦ elim (made_which v r f) [
         | inl other ↦ h.one_a_slot u v q r old.1 other.1 a b c
-        | inr this ↦ absurd (process_in-free s.processes slot u q lowest.free old.1 a (c ∙ ap (λ (x : Process). x.slot) this.1))
+        | inr this ↦ absurd (process_in-free s.processes slot u q lowest.free old.1 a
+            (c ∙ ap (λ (x : Process). x.slot) this.1))
       ]
       | inr this ↦ elim (made_which v r f) [
-        | inl old ↦ absurd (process_in-free s.processes slot v r lowest.free old.1 b (sym c ∙ ap (λ (x : Process). x.slot) this.1))
+        | inl old ↦ absurd (process_in-free s.processes slot v r lowest.free old.1 b
+            (sym c ∙ ap (λ (x : Process). x.slot) this.1))
         | inr that ↦ this.0 ∙ sym that.0
       ]
     ];
     object = λ a y e. elim (object_which a y e) [
       | inl old ↦ object_over s.processes (add_process (new_process s.next slot program_no program 1 hs) s.processes) y
-          (λ v p f. (p, process_of-add_kept (new_process s.next slot program_no program 1 hs) s.processes v p f, refl)) (h.object a y old.1)
-      | inr this ↦ subst (IsObject (add_process (new_process s.next slot program_no program 1 hs) s.processes)) (sym this.1)
-          (new_process s.next slot program_no program 1 hs, process_of-add_new (new_process s.next slot program_no program 1 hs) s.processes made_free)
+          (λ v p f. (
+            p,
+            process_of-add_kept (new_process s.next slot program_no program 1 hs) s.processes v p f,
+            refl,
+          )) (h.object a y old.1)
+      | inr this ↦ subst (IsObject (add_process (new_process s.next slot program_no program 1 hs) s.processes))
+          (sym this.1) (
+            new_process s.next slot program_no program 1 hs,
+            process_of-add_new
+                (new_process s.next slot program_no program 1 hs) s.processes made_free,
+          )
     ];
     only = λ a b y z k e f m n. elim (object_which a y e) [
       | inl old ↦ elim (object_which b z f) [

@@ -35,12 +35,14 @@ code_of script program_no = instructions_of (slice_get script.setup.programs pro
 abbrev pub BlockStep : List Instr → Win32State → ℕ → Reply → Win32State → Type 0
 BlockStep code s w r new =
     let image = image_of (memory_by s w) in
-    Gives (reply.Ran (block_length code image)) (with_own s w (with_image (memory_by s w) (block_image code image))) r new
+    Gives (reply.Ran (block_length code image)) (with_own s w (with_image (memory_by s w) (block_image code image))) r
+    new
 
 -- `run`: a block of local instructions of the caller's program on its image. The host has no program and runs none.
 abbrev pub RunStep : Script → Win32State → ℕ → Reply → Win32State → Type 0
 RunStep script s w r new =
-    MatchOption (program_no_by s w) (Gives (reply.Ran 0) s r new) (λ program_no. BlockStep (code_of script program_no) s w r new)
+    MatchOption (program_no_by s w) (Gives (reply.Ran 0) s r new)
+    (λ program_no. BlockStep (code_of script program_no) s w r new)
 
 -- whether a range lies in a region
 abbrev pub has_range : Own → Region → ℕ → ℕ → Bool
@@ -49,14 +51,16 @@ has_range own region place count = is_inside (length (region_of own region)) pla
 -- the memory `into` with a range of the memory `from` copied into a region
 abbrev pub copied : (from : Own) → Region → ℕ → ℕ → (into : Own) → Region → ℕ → Own
 copied from region place count into into_region into_place =
-    with_region into into_region (written (region_of into into_region) into_place (range_of (region_of from region) place count))
+    with_region into into_region
+    (written (region_of into into_region) into_place (range_of (region_of from region) place count))
 
 -- whether so many bytes may be copied between these ranges: at most 512, and both lie in their regions
 abbrev pub is_copyable : Own → Region → ℕ → Own → Region → ℕ → ℕ → Bool
 is_copyable a region place b other_region other_place count =
     nat_le count 512 && (has_range a region place count && has_range b other_region other_place count)
 
--- `readmem H REGION PLACE OWN OWNPLACE LEN`: bytes of a process's region into an own one. Refusals: badhandle, gone, badrange.
+-- `readmem H REGION PLACE OWN OWNPLACE LEN`: bytes of a process's region into an own one. Refusals: badhandle, gone,
+-- badrange.
 abbrev pub ReadMemoryStep : Win32State → ℕ → ℕ → Region → ℕ → Region → ℕ → ℕ → Reply → Win32State → Type 0
 ReadMemoryStep s w h region place own_region own_place count r new =
     MatchOption (process_named (object_by s w h)) (Gives reply.BadHandle s r new) (λ v.

@@ -24,7 +24,8 @@ use Rattle.win32_spec.specs.CallEffects.{by_bool, by_option, unchanged}
 use Rattle.win32_spec.specs.ThreadEffects.{live_of-found, memory_becomes}
 
 -- Bytes that are written into a region leave its length.
-pub length-written : (bytes : List ℕ) (place : ℕ) (new : List ℕ) → (length new ≡ 0) ⊎ (place + length new ≤ length bytes)
+pub length-written : (bytes : List ℕ) (place : ℕ) (new : List ℕ)
+    → (length new ≡ 0) ⊎ (place + length new ≤ length bytes)
     → length (written bytes place new) ≡ length bytes
 length-written bytes place new h =
     simp (length-append, length-take, length-drop) (elim h [ inl e ↦ omega arith | inr l ↦ omega arith ])
@@ -36,9 +37,11 @@ inside size place count e =
       | inr t ↦ inr (leb-true (place + count) size t)
     ]
 
-length-range : (bytes : List ℕ) (place count : ℕ) → is_inside (length bytes) place count ≡ true → length (range_of bytes place count) ≡ count
+length-range : (bytes : List ℕ) (place count : ℕ) → is_inside (length bytes) place count ≡ true
+    → length (range_of bytes place count) ≡ count
 length-range bytes place count e =
-    simp (length-take, length-drop) (elim (inside (length bytes) place count e) [ inl z ↦ omega arith | inr l ↦ omega arith ])
+    simp (length-take, length-drop)
+    (elim (inside (length bytes) place count e) [ inl z ↦ omega arith | inr l ↦ omega arith ])
 
 lengths-with_region : (own : Own) (region : Region) (bytes : List ℕ) → length bytes ≡ length (region_of own region)
     → KeepsLengths own (with_region own region bytes)
@@ -48,17 +51,21 @@ lengths-with_region own Stack bytes e = record { dat = refl; heap = refl; stack 
 lengths-with_region own Cyg bytes e = record { dat = refl; heap = refl; stack = refl; cyg = e; scratch = refl }
 lengths-with_region own Scratch bytes e = record { dat = refl; heap = refl; stack = refl; cyg = refl; scratch = e }
 
-pub lengths-copied : (from : Own) (region : Region) (place count : ℕ) (into : Own) (into_region : Region) (into_place : ℕ)
+pub lengths-copied : (from : Own) (region : Region) (place count : ℕ) (into : Own) (into_region : Region)
+    (into_place : ℕ)
     → has_range from region place count ≡ true → has_range into into_region into_place count ≡ true
     → KeepsLengths into (copied from region place count into into_region into_place)
 lengths-copied from region place count into into_region into_place e f =
     let n = length-range (region_of from region) place count e in
-    lengths-with_region into into_region (written (region_of into into_region) into_place (range_of (region_of from region) place count))
+    lengths-with_region into into_region
+    (written (region_of into into_region) into_place (range_of (region_of from region) place count))
     (length-written (region_of into into_region) into_place (range_of (region_of from region) place count)
-    (elim (inside (length (region_of into into_region)) into_place count f) [ inl z ↦ inl (n ∙ z) | inr l ↦ inr (rw n l) ]))
+    (elim (inside (length (region_of into into_region)) into_place count f)
+    [ inl z ↦ inl (n ∙ z) | inr l ↦ inr (rw n l) ]))
 
 -- other bytes in a live process
-pub own_effect : (script : Script) (s : Win32State) (w t : ℕ) (c : Call) (v : ℕ) (own : Own) (new : Win32State) → MayWrite s w c v
+pub own_effect : (script : Script) (s : Win32State) (w t : ℕ) (c : Call) (v : ℕ) (own : Own) (new : Win32State)
+    → MayWrite s w c v
     → ((p : Process) → process_of s.processes v ≡ Some p → (is_alive p.life ≡ true) × KeepsLengths p.own own)
     → new ≡ with_own s v own → CallEffect script s w t c new
 own_effect script s w t c v own new written keeps e =
@@ -77,7 +84,8 @@ copyable a region place b other other_place count e =
     and_true (has_range a region place count) (has_range b other other_place count)
     (and_true (nat_le count 512) (has_range a region place count && has_range b other other_place count) e).1
 
-pub read_effect : (script : Script) (s : Win32State) (w t h : ℕ) (region : Region) (place : ℕ) (own_region : Region) (own_place count : ℕ)
+pub read_effect : (script : Script) (s : Win32State) (w t h : ℕ) (region : Region) (place : ℕ) (own_region : Region)
+    (own_place count : ℕ)
     (r : Reply) (new : Win32State) → is_live (process_of s.processes w) ≡ true
     → ReadMemoryStep s w h region place own_region own_place count r new
     → CallEffect script s w t (call.ReadMemory h region place own_region own_place count) new
@@ -88,16 +96,24 @@ read_effect script s w t h region place own_region own_place count r new live st
     by_bool (is_copyable p.own region place (memory_by s w) own_region own_place count)
     (λ fits m. let both = copyable p.own region place (memory_by s w) own_region own_place count fits in
     own_effect script s w t c w (copied p.own region place count (memory_by s w) own_region own_place) new (inl refl)
-    (λ q f. (rw f at live, rw (← memory_by-found s w q f) (lengths-copied p.own region place count (memory_by s w) own_region own_place both.0 both.1)))
+    (λ q f. (
+      rw f at live,
+      rw (← memory_by-found s w q f)
+          (lengths-copied p.own region place count (memory_by s w) own_region own_place both.0 both.1),
+    ))
     m.1)
     (λ fits m. unchanged script s w t c new m.1) m) m) step
 
-pub write_effect : (script : Script) (s : Win32State) (w t h : ℕ) (region : Region) (place : ℕ) (own_region : Region) (own_place count : ℕ)
+pub write_effect : (script : Script) (s : Win32State) (w t h : ℕ) (region : Region) (place : ℕ) (own_region : Region)
+    (own_place count : ℕ)
     (r : Reply) (new : Win32State) → WriteMemoryStep s w h region place own_region own_place count r new
     → CallEffect script s w t (call.WriteMemory h region place own_region own_place count) new
 write_effect script s w t h region place own_region own_place count r new step =
-    by_option (process_named (object_by s w h)) (λ e m. unchanged script s w t (call.WriteMemory h region place own_region own_place count) new m.1) (λ v named m.
-    by_option (live_process s v) (λ e m. unchanged script s w t (call.WriteMemory h region place own_region own_place count) new m.1) (λ p e m.
+    by_option (process_named (object_by s w h))
+    (λ e m. unchanged script s w t (call.WriteMemory h region place own_region own_place count) new m.1)
+    (λ v named m.
+    by_option (live_process s v)
+    (λ e m. unchanged script s w t (call.WriteMemory h region place own_region own_place count) new m.1) (λ p e m.
     by_bool (is_copyable p.own region place (memory_by s w) own_region own_place count)
     (λ fits m. let both = copyable p.own region place (memory_by s w) own_region own_place count fits in
     let found = live_of-found (process_of s.processes v) p e in
@@ -105,7 +121,8 @@ write_effect script s w t h region place own_region own_place count r new step =
     (copied (memory_by s w) own_region own_place count p.own region place) new (inr named)
     (λ q f. let same : p ≡ q = same_some (process_of s.processes v) p q found.0 f in (
       rw (← same) found.1,
-      subst (λ (k : Process). KeepsLengths k.own (copied (memory_by s w) own_region own_place count p.own region place)) same
+      subst (λ (k : Process). KeepsLengths k.own
+          (copied (memory_by s w) own_region own_place count p.own region place)) same
           (lengths-copied (memory_by s w) own_region own_place count p.own region place both.1 both.0),
     ))
     m.1)

@@ -22,22 +22,26 @@ pub set_effect : (script : Script) (s : Win32State) (w t h : ℕ) (r : Reply) (n
     → CallEffect script s w t (call.Set h) new
 set_effect script s w t h r new step =
     by_option (event_named (object_by s w h)) (λ e m. unchanged script s w t (call.Set h) new m.1) (λ state e m.
-    object_changes script s w t (call.Set h) h (Event state) (Event (event_set state)) new (is_event (object_by s w h) state e)
+    object_changes script s w t (call.Set h) h (Event state) (Event (event_set state)) new
+    (is_event (object_by s w h) state e)
     (record { only = refl; ends = refl; holds = tt }) m.1) step
 
 pub reset_effect : (script : Script) (s : Win32State) (w t h : ℕ) (r : Reply) (new : Win32State) → ResetStep s w h r new
     → CallEffect script s w t (call.Reset h) new
 reset_effect script s w t h r new step =
     by_option (event_named (object_by s w h)) (λ e m. unchanged script s w t (call.Reset h) new m.1) (λ state e m.
-    object_changes script s w t (call.Reset h) h (Event state) (Event (event_reset state)) new (is_event (object_by s w h) state e)
+    object_changes script s w t (call.Reset h) h (Event state) (Event (event_reset state)) new
+    (is_event (object_by s w h) state e)
     (record { only = refl; ends = refl; holds = tt }) m.1) step
 
-pub release_effect : (script : Script) (s : Win32State) (w t h : ℕ) (r : Reply) (new : Win32State) → ReleaseStep s w t h r new
+pub release_effect : (script : Script) (s : Win32State) (w t h : ℕ) (r : Reply) (new : Win32State)
+    → ReleaseStep s w t h r new
     → CallEffect script s w t (call.Release h) new
 release_effect script s w t h r new step =
     by_option (mutex_named (object_by s w h)) (λ e m. unchanged script s w t (call.Release h) new m.1) (λ owner e m.
     by_bool (is_owner owner w t)
-    (λ owns m. object_changes script s w t (call.Release h) h (Mutex owner) (Mutex Free) new (is_mutex (object_by s w h) owner e)
+    (λ owns m. object_changes script s w t (call.Release h) h (Mutex owner) (Mutex Free) new
+    (is_mutex (object_by s w h) owner e)
     (record { only = refl; ends = refl; holds = inr (inl (owns, refl)) }) m.1)
     (λ owns m. unchanged script s w t (call.Release h) new m.1) m) step
 
@@ -64,7 +68,8 @@ put-room pipe b l = by_tests (nat_eq pipe.readers 0) (nat_lt (length pipe.bytes)
     by_tests : (i j : Bool) → nat_lt (length pipe.bytes) 64 ≡ j
         → length (if i then pipe else if j then record pipe { bytes = pipe.bytes ++ b ∷ [] } else pipe).bytes ≤ 64
     by_tests true j e = l
-    by_tests false true e = let n : length pipe.bytes < 64 = grind (arith, nat_tests) in omega (arith, length-append pipe.bytes (b ∷ []))
+    by_tests false true e = let n : length pipe.bytes < 64 = grind (arith, nat_tests) in
+        omega (arith, length-append pipe.bytes (b ∷ []))
     by_tests false false e = l
 
 get-room : (bytes : List ℕ) → length bytes ≤ 64 → length (without_first bytes) ≤ 64
@@ -88,7 +93,8 @@ get_effect script s w t h r new step =
     (record { only = refl; ends = refl; holds = get-room bytes }) m.1) step
 
 -- An object that a wait takes: a mutex is free for the thread.
-taken : (E : Type 0) (s : Win32State) (w t names : ℕ) (x : Object) → is_signalled s w t names (Some x) ≡ true → ObjectBecomes E w t x (taken_object w t x)
+taken : (E : Type 0) (s : Win32State) (w t names : ℕ) (x : Object) → is_signalled s w t names (Some x) ≡ true
+    → ObjectBecomes E w t x (taken_object w t x)
 taken E s w t names (Section words) g = record { only = refl; ends = refl; holds = (refl, λ n. refl) }
 taken E s w t names (Event e) g = record { only = refl; ends = refl; holds = tt }
 taken E s w t names (Mutex owner) g = record { only = refl; ends = refl; holds = inr (inr (g, refl)) }
@@ -97,7 +103,8 @@ taken E s w t names (ProcessObject v) g = record { only = refl; ends = refl; hol
 taken E s w t names (TerminalObject terminal) g = record { only = refl; ends = refl; holds = tt }
 
 -- the first signalled place is signalled
-pub first_signalled-is : (s : Win32State) (w t : ℕ) (handles : List Handle) (list : List ℕ) (m n : ℕ) → first_signalled s w t handles list m ≡ Some n
+pub first_signalled-is : (s : Win32State) (w t : ℕ) (handles : List Handle) (list : List ℕ) (m n : ℕ)
+    → first_signalled s w t handles list m ≡ Some n
     → (k : ℕ) × (n ≡ m + k) × (is_handle_signalled s w t (handle_of handles (slice_index list k)) ≡ true)
 first_signalled-is s w t handles [] m n e = absurd (cc)
 first_signalled-is s w t handles (h ∷ hs) m n e =
@@ -118,11 +125,13 @@ takes_effect : (script : Script) (s : Win32State) (w t : ℕ) (c : Call) (h : �
 takes_effect script s w t c h x new signalled e after =
     object_changes script s w t c h x (taken_object w t x) new e (by_answer (named_by s w h) signalled e) after
   where
-    by_answer : (o : Option ℕ) → is_handle_signalled s w t o ≡ true → object_at s o ≡ Some x → ObjectBecomes (MayExchange c) w t x (taken_object w t x)
+    by_answer : (o : Option ℕ) → is_handle_signalled s w t o ≡ true → object_at s o ≡ Some x
+        → ObjectBecomes (MayExchange c) w t x (taken_object w t x)
     by_answer None g f = absurd (cc)
     by_answer (Some names) g f = taken (MayExchange c) s w t names x (rw f at g)
 
-pub wait_effect : (script : Script) (s : Win32State) (w t : ℕ) (list : List ℕ) (r : Reply) (new : Win32State) → WaitStep s w t list r new
+pub wait_effect : (script : Script) (s : Win32State) (w t : ℕ) (list : List ℕ) (r : Reply) (new : Win32State)
+    → WaitStep s w t list r new
     → CallEffect script s w t (call.WaitAny list) new
 wait_effect script s w t list r new step =
     by_bool (has_absent (handles_by s w) list) (λ e m. unchanged script s w t (call.WaitAny list) new m.1) (λ e m.
@@ -133,8 +142,10 @@ wait_effect script s w t list r new step =
     takes_effect script s w t (call.WaitAny list) (slice_index list n) x new (rw k at.2) g m.1) m) m) step
 
 -- New objects.
-pub made_effect : (script : Script) (s : Win32State) (w t : ℕ) (c : Call) (x : Object) (r : Reply) (new : Win32State) → IsObject s.processes x
-    → ((b : ℕ) (y : Object) (k : ℕ) → object_of s.objects b ≡ Some y → only_number x ≡ Some k → only_number y ≡ Some k → ⊥)
+pub made_effect : (script : Script) (s : Win32State) (w t : ℕ) (c : Call) (x : Object) (r : Reply) (new : Win32State)
+    → IsObject s.processes x
+    → ((b : ℕ) (y : Object) (k : ℕ) → object_of s.objects b ≡ Some y → only_number x ≡ Some k → only_number y ≡ Some k
+    → ⊥)
     → MakesObject s w x r new → CallEffect script s w t c new
 made_effect script s w t c x r new rule only step =
     by_bool (is_full (handles_by s w) 1) (λ e m. unchanged script s w t c new m.1) (λ e m. Adds x rule only e r m) step
@@ -142,11 +153,13 @@ made_effect script s w t c x r new rule only step =
 pub event_effect : (script : Script) (s : Win32State) (w t : ℕ) (manual signalled : Bool) (r : Reply) (new : Win32State)
     → EventStep s w manual signalled r new → CallEffect script s w t (call.Event manual signalled) new
 event_effect script s w t manual signalled r new step =
-    made_effect script s w t (call.Event manual signalled) (Event (record { manual = manual; signalled = signalled })) r new tt
+    made_effect script s w t (call.Event manual signalled) (Event (record { manual = manual; signalled = signalled }))
+    r new tt
     (λ b y k e f g. absurd (cc)) step
 
 pub mutex_effect : (script : Script) (s : Win32State) (w t : ℕ) (owned : Bool) (r : Reply) (new : Win32State)
-    → is_live (process_of s.processes w) ≡ true → t ≤ 2 → MutexStep s w t owned r new → CallEffect script s w t (call.Mutex owned) new
+    → is_live (process_of s.processes w) ≡ true → t ≤ 2 → MutexStep s w t owned r new
+    → CallEffect script s w t (call.Mutex owned) new
 mutex_effect script s w t true r new live few step =
     made_effect script s w t (call.Mutex true) (Mutex (Owned w t)) r new (live, few) (λ b y k e f g. absurd (cc)) step
 mutex_effect script s w t false r new live few step =

@@ -62,10 +62,12 @@ pipe_is_signalled p = if is_empty p.bytes then nat_eq p.writers 0 else true
 
 -- the reply to a byte that is put in, and what it leaves
 abbrev pub put_reply : PipeState → Reply
-put_reply p = if nat_eq p.readers 0 then reply.NoReader else if nat_lt (length p.bytes) 64 then reply.Done else reply.Full
+put_reply p = if nat_eq p.readers 0 then reply.NoReader else if nat_lt (length p.bytes) 64 then reply.Done
+    else reply.Full
 
 abbrev pub put_after : PipeState → ℕ → PipeState
-put_after p b = if nat_eq p.readers 0 then p else if nat_lt (length p.bytes) 64 then record p { bytes = p.bytes ++ b ∷ [] } else p
+put_after p b = if nat_eq p.readers 0 then p else if nat_lt (length p.bytes) 64
+    then record p { bytes = p.bytes ++ b ∷ [] } else p
 
 -- the reply to a call that takes the oldest byte out, and what it leaves
 abbrev pub get_reply : List ℕ → ℕ → Reply
@@ -85,7 +87,9 @@ load_reply words i = if nat_lt i (length words) then reply.Word (slice_index wor
 
 -- what a compare-exchange leaves: the new word where the old one was found
 abbrev pub exchanged : List ℕ → ℕ → ℕ → ℕ → List ℕ
-exchanged words i old new = if nat_lt i (length words) then (if nat_eq (slice_index words i) old then slice_set words i new else words) else words
+exchanged words i old new =
+    if nat_lt i (length words) then (if nat_eq (slice_index words i) old then slice_set words i new else words)
+    else words
 
 -- what an addition leaves, which wraps at 64 bits
 abbrev pub added : List ℕ → ℕ → ℕ → List ℕ

@@ -82,7 +82,8 @@ opening_handles numbers = record { number = 1; names = numbers.section } ∷ rec
 -- The first layer process runs the script's first program. Its main thread isn't suspended, and its modules are placed.
 abbrev pub opening_process : OpeningNumbers → Program → List PlacedModule → Process
 opening_process numbers program placed =
-    record (new_process 2 1 0 program 0 (opening_handles numbers)) { own = opening_memory program placed; placed = placed }
+    record (new_process 2 1 0 program 0 (opening_handles numbers))
+    { own = opening_memory program placed; placed = placed }
 
 abbrev pub opening_objects : OpeningNumbers → List NumberedObject
 opening_objects numbers = record { number = numbers.section; object = Section opening_words }

@@ -1,9 +1,7 @@
 -- The opening state is well formed.
-use Rattle.std.proofs.Common.{◌≡◌, ◌≢◌, ◌⊎◌, inl, inr, ℕ, ◌+◌, ◌-◌, ◌≤◌, true, if◌then◌else◌, nat_eq, List, [], ◌∷◌, ◌++◌, length, Some, None, slice_get, refl, sym, ap, ◌∙◌, subst, arith, append_assoc, length-append}
+use Rattle.std.proofs.Common.{◌≡◌, ◌≢◌, ◌⊎◌, inl, inr, ℕ, ◌+◌, ◌≤◌, true, if◌then◌else◌, nat_eq, List, [], ◌∷◌, length, Some, None, slice_get, refl, sym, ap, ◌∙◌, subst, arith}
 use Rattle.std.proofs.lemmas.Bool.{cases_eq}
-use Rattle.std.proofs.lemmas.List.{length-replicate}
 use Rattle.tty_spec.specs.Terminal.{opening_terminal}
-use Rattle.w32_base.specs.declared.setup.Module.{Module}
 use Rattle.w32_base.specs.declared.setup.Program.{Program}
 use Rattle.script_spec.specs.declared.script.Script.{Script}
 use Rattle.win32_spec.specs.Handles.{Handle, handle_of}
@@ -11,56 +9,17 @@ use Rattle.win32_spec.specs.Objects.{Free}
 use Rattle.win32_spec.specs.State.{Object, Section, Mutex, ProcessObject, TerminalObject, PlacedModule, Process, Win32State}
 use Rattle.win32_spec.specs.Lookup.{is_alive, process_of, object_number, object_of}
 use Rattle.win32_spec.specs.Ends.{is_object_held}
-use Rattle.win32_spec.specs.Placing.{base_in, and_placed}
-use Rattle.win32_spec.specs.Opening.{opening_words, ArePlaced, base_bytes, opening_cygheap, opening_memory, OpeningNumbers, opening_host, opening_handles, opening_process, opening_objects, opening, IsOpening}
+use Rattle.win32_spec.specs.Opening.{opening_words, ArePlaced, opening_memory, OpeningNumbers, opening_host, opening_handles, opening_process, opening_objects, opening, IsOpening}
 use Rattle.win32_spec.specs.WellFormed.{HasSizes, AreModules, has_ends, IsListed, IsLiveProcess, IsProcessBy, IsObject, only_number, IsFormed, IsWellFormed}
 use Rattle.win32_spec.specs.LookupLaws.{same, differs, same_some}
 use Rattle.win32_spec.specs.HeldLaws.{is-held}
 use Rattle.win32_spec.specs.FormedLaws.{to_listed}
 use Rattle.win32_spec.specs.MadeLaws.{sizes-new_memory}
-use Rattle.win32_spec.specs.PlaceEffects.{modules-behind, base_in-behind}
-
-length-opening_words : length opening_words ≡ 12001
-unfolding opening_words
-length-opening_words = omega (arith, length-replicate {A = ℕ} 11998 0)
-
-length-base_bytes : (placed : List PlacedModule) → length (base_bytes placed) ≡ length placed + length placed
-length-base_bytes [] = refl
-length-base_bytes (m ∷ ms) = omega (arith, length-base_bytes ms)
-
-length-opening_cygheap : (placed : List PlacedModule) → length placed ≤ 8 → length (opening_cygheap placed) ≡ 288
-unfolding opening_cygheap
-length-opening_cygheap placed few =
-    simp length-append (omega (
-      arith,
-      length-base_bytes placed,
-      length-replicate {A = ℕ} 139 0,
-      length-replicate {A = ℕ} (148 - length (base_bytes placed)) 0,
-    ))
-
--- an element behind others
-slice_get-behind : {X : Type 0} (front : List X) (x : X) (rest : List X) → slice_get (front ++ x ∷ rest) (length front) ≡ Some x
-slice_get-behind [] x rest = refl
-slice_get-behind (y ∷ ys) x rest = slice_get-behind ys x rest
-
--- the placed modules are the script's
-placed-modules : (script : Script) (creation m : ℕ) (rest front : List Module) (before after : List PlacedModule)
-    → script.setup.modules ≡ front ++ rest → length front ≡ m → ((k : ℕ) → m ≤ k → base_in before k ≡ None)
-    → AreModules script.setup.modules before → ArePlaced script creation m rest before after
-    → AreModules script.setup.modules after × (length after ≡ length before + length rest)
-placed-modules script creation m [] front before after e n free h placed = rw placed (h, omega arith)
-placed-modules script creation m (wanted ∷ others) front before after e n free h placed =
-    let listed : slice_get script.setup.modules m ≡ Some wanted = rw (e, ← n) (slice_get-behind front wanted others) in
-    let longer : length (front ++ wanted ∷ []) ≡ m + 1 = omega (arith, length-append front (wanted ∷ [])) in
-    let next = placed-modules script creation (m + 1) others (front ++ wanted ∷ []) (and_placed before m placed.0) after
-    (rw append_assoc e) longer
-    (λ k l. base_in-behind before k m placed.0 (free k (omega arith)) (λ i. omega arith))
-    (modules-behind script.setup.modules before m placed.0 (free m (omega arith))
-    (record { wanted = wanted; listed = listed; within = placed.1.0.within }) h) placed.2 in
-    (next.0, omega (arith, next.1, length-append before (record { module_no = m; base = placed.0 } ∷ [])))
+use Rattle.win32_spec.specs.PlacedLaws.{length-opening_words, length-opening_cygheap, placed-modules}
 
 module _ (script : Script) (numbers : OpeningNumbers) (program : Program) (placed : List PlacedModule)
-    (first : slice_get script.setup.programs 0 ≡ Some program) (in_order : ArePlaced script 1 0 script.setup.modules [] placed)
+    (first : slice_get script.setup.programs 0 ≡ Some program)
+    (in_order : ArePlaced script 1 0 script.setup.modules [] placed)
     (few : length script.setup.modules ≤ 8) (slots : 1 ≤ script.setup.limits.slots) where
   modules_are : AreModules script.setup.modules placed × (length placed ≡ 0 + length script.setup.modules)
   modules_are = placed-modules script 1 0 script.setup.modules [] [] placed refl refl (λ k l. refl) tt in_order
@@ -76,25 +35,37 @@ module _ (script : Script) (numbers : OpeningNumbers) (program : Program) (place
 
   at_terminal : object_of (opening_objects numbers) numbers.terminal ≡ Some (TerminalObject opening_terminal)
   at_terminal =
-      let s = differs numbers.section numbers.terminal (λ e. omega (arith, numbers.mutex_above, numbers.terminal_above)) in
+      let s = differs numbers.section numbers.terminal
+      (λ e. omega (arith, numbers.mutex_above, numbers.terminal_above)) in
       let t = differs numbers.mutex numbers.terminal (λ e. omega (arith, numbers.terminal_above)) in
       let u = same numbers.terminal numbers.terminal refl in rw (s, t, u) refl
 
   at_process : object_of (opening_objects numbers) numbers.process ≡ Some (ProcessObject 2)
   at_process =
-      let s = differs numbers.section numbers.process (λ e. omega (arith, numbers.mutex_above, numbers.terminal_above, numbers.process_above)) in
-      let t = differs numbers.mutex numbers.process (λ e. omega (arith, numbers.terminal_above, numbers.process_above)) in
+      let s = differs numbers.section numbers.process
+      (λ e. omega (arith, numbers.mutex_above, numbers.terminal_above, numbers.process_above)) in
+      let t = differs numbers.mutex numbers.process
+      (λ e. omega (arith, numbers.terminal_above, numbers.process_above)) in
       let v = differs numbers.terminal numbers.process (λ e. omega (arith, numbers.process_above)) in
       let u = same numbers.process numbers.process refl in rw (s, t, v, u) refl
 
   -- an object is one of the four
   which_one : (o : ℕ) (x : Object) → object_of (opening_objects numbers) o ≡ Some x
       → ((o ≡ numbers.section) × (x ≡ Section opening_words)) ⊎ ((o ≡ numbers.mutex) × (x ≡ Mutex Free))
-      ⊎ ((o ≡ numbers.terminal) × (x ≡ TerminalObject opening_terminal)) ⊎ ((o ≡ numbers.process) × (x ≡ ProcessObject 2))
+      ⊎ ((o ≡ numbers.terminal) × (x ≡ TerminalObject opening_terminal))
+      ⊎ ((o ≡ numbers.process) × (x ≡ ProcessObject 2))
   which_one o x e = elim (cases_eq o numbers.section) [
-    | inl n ↦ inl (n, same_some (object_of (opening_objects numbers) o) x (Section opening_words) e (ap (object_of (opening_objects numbers)) n ∙ at_section))
+    | inl n ↦ inl (
+      n,
+      same_some (object_of (opening_objects numbers) o) x (Section opening_words) e
+          (ap (object_of (opening_objects numbers)) n ∙ at_section),
+    )
     | inr a ↦ elim (cases_eq o numbers.mutex) [
-      | inl n ↦ inr (inl (n, same_some (object_of (opening_objects numbers) o) x (Mutex Free) e (ap (object_of (opening_objects numbers)) n ∙ at_mutex)))
+      | inl n ↦ inr (inl (
+        n,
+        same_some (object_of (opening_objects numbers) o) x (Mutex Free) e
+            (ap (object_of (opening_objects numbers)) n ∙ at_mutex),
+      ))
       | inr b ↦ elim (cases_eq o numbers.terminal) [
         | inl n ↦ inr (inr (inl (
           n,
@@ -124,15 +95,18 @@ module _ (script : Script) (numbers : OpeningNumbers) (program : Program) (place
   AreListed [] = Unit {0}
   AreListed (h ∷ hs) = IsListed (opening_objects numbers) h.names × AreListed hs
 
-  all_listed : (hs : List Handle) → AreListed hs → (k names : ℕ) → handle_of hs k ≡ Some names → IsListed (opening_objects numbers) names
+  all_listed : (hs : List Handle) → AreListed hs → (k names : ℕ) → handle_of hs k ≡ Some names
+      → IsListed (opening_objects numbers) names
   all_listed [] l k names e = absurd (cc)
   all_listed (h ∷ hs) l k names e = elim (cases_eq h.number k) [
-    | inl n ↦ let s = same h.number k n in let f : Some h.names ≡ Some names = rw s at e in let g : h.names ≡ names = cc in
+    | inl n ↦ let s = same h.number k n in let f : Some h.names ≡ Some names = rw s at e in let g : h.names ≡ names =
+        cc in
         subst (IsListed (opening_objects numbers)) g l.0
     | inr d ↦ let s = differs h.number k d in all_listed hs l.1 k names (rw s at e)
   ]
 
-  list_one : (names o : ℕ) (x : Object) → object_number names ≡ o → object_of (opening_objects numbers) o ≡ Some x → (names ≡ o) ⊎ (has_ends x ≡ true)
+  list_one : (names o : ℕ) (x : Object) → object_number names ≡ o → object_of (opening_objects numbers) o ≡ Some x
+      → (names ≡ o) ⊎ (has_ends x ≡ true)
       → IsListed (opening_objects numbers) names
   list_one names o x e f fits =
       to_listed (opening_objects numbers) names x (ap (object_of (opening_objects numbers)) e ∙ f)
@@ -150,13 +124,18 @@ module _ (script : Script) (numbers : OpeningNumbers) (program : Program) (place
       sizes = record { dat_size = refl; heap_size = refl; stack_size = refl; cyg_size = refl; scratch_size = refl };
     };
     threads = (refl, omega arith, (refl, omega arith, tt));
-    rising = (omega arith, omega arith, (omega arith, omega arith, (omega arith, omega arith, (omega arith, omega arith, tt))));
+    rising = (
+      omega arith,
+      omega arith,
+      (omega arith, omega arith, (omega arith, omega arith, (omega arith, omega arith, tt))),
+    );
     naming = all_listed (opening_host numbers).handles (
       list_one numbers.section numbers.section (Section opening_words) numbers.section_even at_section (inl refl),
       (
         list_one numbers.mutex numbers.mutex (Mutex Free) numbers.mutex_even at_mutex (inl refl),
         (
-          list_one numbers.terminal numbers.terminal (TerminalObject opening_terminal) numbers.terminal_even at_terminal (inl refl),
+          list_one numbers.terminal numbers.terminal (TerminalObject opening_terminal) numbers.terminal_even
+              at_terminal (inl refl),
           (list_one numbers.process numbers.process (ProcessObject 2) numbers.process_even at_process (inl refl), tt),
         ),
       ),
@@ -191,7 +170,11 @@ module _ (script : Script) (numbers : OpeningNumbers) (program : Program) (place
       list_one numbers.section numbers.section (Section opening_words) numbers.section_even at_section (inl refl),
       (
         list_one numbers.mutex numbers.mutex (Mutex Free) numbers.mutex_even at_mutex (inl refl),
-        (list_one (numbers.terminal + 1) numbers.terminal (TerminalObject opening_terminal) lines_face at_terminal (inr refl), tt),
+        (
+          list_one (numbers.terminal + 1) numbers.terminal (TerminalObject opening_terminal) lines_face at_terminal
+              (inr refl),
+          tt,
+        ),
       ),
     );
   }
@@ -204,7 +187,8 @@ module _ (script : Script) (numbers : OpeningNumbers) (program : Program) (place
   which_process w p e = elim (cases_eq 1 w) [
     | inl n ↦ let s = same 1 w n in let f : Some (opening_host numbers) ≡ Some p = rw s at e in inl (sym n, cc)
     | inr a ↦ let s = differs 1 w a in elim (cases_eq 2 w) [
-      | inl n ↦ let t = same 2 w n in let f : Some (opening_process numbers program placed) ≡ Some p = rw (s, t) at e in inr (sym n, cc)
+      | inl n ↦ let t = same 2 w n in let f : Some (opening_process numbers program placed) ≡ Some p =
+          rw (s, t) at e in inr (sym n, cc)
       | inr b ↦ let t = differs 2 w b in absurd (let f : None ≡ Some p = rw (s, t) at e in cc)
     ]
   ]
@@ -219,20 +203,27 @@ module _ (script : Script) (numbers : OpeningNumbers) (program : Program) (place
       (
         omega (arith, numbers.mutex_above),
         numbers.mutex_even,
-        (omega (arith, numbers.terminal_above), numbers.terminal_even, (omega (arith, numbers.process_above), numbers.process_even, tt)),
+        (
+          omega (arith, numbers.terminal_above),
+          numbers.terminal_even,
+          (omega (arith, numbers.process_above), numbers.process_even, tt),
+        ),
       ),
     );
     process = λ w p e. elim (which_process w p e) [
       | inl host ↦ subst (λ (x : Process). IsProcessBy script (opening_objects numbers) x x.life) (sym host.1) host_live
-      | inr layer ↦ subst (λ (x : Process). IsProcessBy script (opening_objects numbers) x x.life) (sym layer.1) first_live
+      | inr layer ↦ subst (λ (x : Process). IsProcessBy script (opening_objects numbers) x x.life) (sym layer.1)
+          first_live
     ];
     one_a_slot = λ v w p q e f a b c. elim (which_process v p e) [
       | inl host ↦ elim (which_process w q f) [
         | inl other ↦ host.0 ∙ sym other.0
-        | inr layer ↦ absurd (let g : 0 ≡ 1 = ap (λ (x : Process). x.slot) (sym host.1) ∙ c ∙ ap (λ (x : Process). x.slot) layer.1 in omega arith)
+        | inr layer ↦ absurd (let g : 0 ≡ 1 =
+            ap (λ (x : Process). x.slot) (sym host.1) ∙ c ∙ ap (λ (x : Process). x.slot) layer.1 in omega arith)
       ]
       | inr layer ↦ elim (which_process w q f) [
-        | inl host ↦ absurd (let g : 1 ≡ 0 = ap (λ (x : Process). x.slot) (sym layer.1) ∙ c ∙ ap (λ (x : Process). x.slot) host.1 in omega arith)
+        | inl host ↦ absurd (let g : 1 ≡ 0 =
+            ap (λ (x : Process). x.slot) (sym layer.1) ∙ c ∙ ap (λ (x : Process). x.slot) host.1 in omega arith)
         | inr other ↦ layer.0 ∙ sym other.0
       ]
     ];
@@ -296,7 +287,8 @@ module _ (script : Script) (numbers : OpeningNumbers) (program : Program) (place
   }
 
 -- the state in which a run of a script begins is well formed
-pub wellformed-opening : (script : Script) (s : Win32State) → length script.setup.modules ≤ 8 → IsOpening script s → IsWellFormed script s
+pub wellformed-opening : (script : Script) (s : Win32State) → length script.setup.modules ≤ 8 → IsOpening script s
+    → IsWellFormed script s
 wellformed-opening script s few h =
     subst (IsWellFormed script) (sym h.state)
     (opening_wellformed script h.numbers h.program h.placed h.first h.in_order few script.setup.limits.slots_in_range.0)

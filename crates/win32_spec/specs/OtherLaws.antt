@@ -48,15 +48,19 @@ same_becomes script W A p q e = subst (λ x. ProcessBecomes script W A p x) (sym
 beside : (ps : List Process) (w v : ℕ) (hs : List Handle) (p q : Process) → v ≢ w → process_of ps v ≡ Some p
     → process_of (change_process w (λ x. record x { handles = hs }) ps) v ≡ Some q → q ≡ p
 beside ps w v hs p q d e f =
-    same_some (process_of ps v) q p (sym (process_of-change_other w (λ x. record x { handles = hs }) (λ x. refl) ps v d) ∙ f) e
+    same_some (process_of ps v) q p
+    (sym (process_of-change_other w (λ x. record x { handles = hs }) (λ x. refl) ps v d) ∙ f) e
 
 -- Another process that lives on, after a call of process w.
 pub other-effect : (script : Script) (s : Win32State) (w t : ℕ) (c : Call) (new : Win32State) → IsWellFormed script s
     → CallEffect script s w t c new → (v : ℕ) (p q : Process) → v ≢ w → process_of s.processes v ≡ Some p
-    → process_of new.processes v ≡ Some q → is_alive q.life ≡ true → ProcessBecomes script (MayWrite s w c v) (v ≡ w) p q
+    → process_of new.processes v ≡ Some q → is_alive q.life ≡ true
+    → ProcessBecomes script (MayWrite s w c v) (v ≡ w) p q
 other-effect script s w t c new h (Changes tame) v p q d e f alive =
-    let r = both_forth (ProcessBecomes script (MayWrite s w c v) (v ≡ w)) (process_of s.processes v) (process_of new.processes v) p (tame.processes.process v) e in
-    subst (λ x. ProcessBecomes script (MayWrite s w c v) (v ≡ w) p x) (same_some (process_of new.processes v) r.0 q r.1 f) r.2
+    let r = both_forth (ProcessBecomes script (MayWrite s w c v) (v ≡ w)) (process_of s.processes v)
+    (process_of new.processes v) p (tame.processes.process v) e in
+    subst (λ x. ProcessBecomes script (MayWrite s w c v) (v ≡ w) p x)
+    (same_some (process_of new.processes v) r.0 q r.1 f) r.2
 other-effect script s w t c new h (Opens names listed room answer r handled) v p q d e f alive =
     same_becomes script (MayWrite s w c v) (v ≡ w) p q
     (beside s.processes w v (with_handle (handles_by s w) handled.handle names) p q d e
@@ -67,20 +71,26 @@ other-effect script s w t c new h (Adds x rule only room r added) v p q d e f al
     (subst (λ (n : Win32State). process_of n.processes v ≡ Some q) added.handled.after f))
 other-effect script s w t c new h (AddsPipe room r pipe) v p q d e f alive =
     same_becomes script (MayWrite s w c v) (v ≡ w) p q
-    (beside s.processes w v (with_handle (with_handle (handles_by s w) pipe.read_end pipe.number) pipe.write_end (pipe.number + 1)) p q d e
+    (beside s.processes w v
+    (with_handle (with_handle (handles_by s w) pipe.read_end pipe.number) pipe.write_end (pipe.number + 1)) p q d e
     (subst (λ (n : Win32State). process_of n.processes v ≡ Some q) pipe.after f))
 other-effect script s w t c new h (Makes slot program_no program list r listed lowest room made) v p q d e f alive =
     same_becomes script (MayWrite s w c v) (v ≡ w) p q
-    (beside (add_process (new_process s.next slot program_no program 1 (listed_handles (handles_by s w) list)) s.processes) w v
+    (beside (add_process (new_process s.next slot program_no program 1 (listed_handles (handles_by s w) list))
+    s.processes) w v
     (with_handle (handles_by s w) made.handled.handle made.number) p q d
-    (process_of-add_kept (new_process s.next slot program_no program 1 (listed_handles (handles_by s w) list)) s.processes v p e)
+    (process_of-add_kept (new_process s.next slot program_no program 1 (listed_handles (handles_by s w) list))
+    s.processes v p e)
     (subst (λ (n : Win32State). process_of n.processes v ≡ Some q) made.handled.after f))
 other-effect script s w t c new h (Closes k after) v p q d e f alive =
-    let rising = rising-change_process w (λ x. record x { handles = without_handle (handles_by s w) k }) (λ x. refl) 1 s.next s.processes h.formed.processes in
-    let held = held_objects (change_process w (λ x. record x { handles = without_handle (handles_by s w) k }) s.processes) s.objects in
+    let rising = rising-change_process w (λ x. record x { handles = without_handle (handles_by s w) k }) (λ x. refl) 1
+    s.next s.processes h.formed.processes in
+    let held = held_objects
+    (change_process w (λ x. record x { handles = without_handle (handles_by s w) k }) s.processes) s.objects in
     same_becomes script (MayWrite s w c v) (v ≡ w) p q
     (beside s.processes w v (without_handle (handles_by s w) k) p q d e
-    (kept_process held 1 s.next (change_process w (λ x. record x { handles = without_handle (handles_by s w) k }) s.processes) v q rising
+    (kept_process held 1 s.next
+    (change_process w (λ x. record x { handles = without_handle (handles_by s w) k }) s.processes) v q rising
     (subst (λ (n : Win32State). process_of n.processes v ≡ Some q) after f)).0)
 other-effect script s w t c new h (Ends u code live after) v p q d e f alive =
     let rising = rising-change_process u (ended_process code) (λ x. refl) 1 s.next s.processes h.formed.processes in
@@ -89,6 +99,7 @@ other-effect script s w t c new h (Ends u code live after) v p q d e f alive =
     (kept_process held 1 s.next (change_process u (ended_process code) s.processes) v q rising
     (subst (λ (n : Win32State). process_of n.processes v ≡ Some q) after f)).0 in
     elim (changed_process u (ended_process code) (λ x. refl) s.processes v q kept) [
-      | inl other ↦ same_becomes script (MayWrite s w c v) (v ≡ w) p q (same_some (process_of s.processes v) q p other.1 e)
+      | inl other ↦ same_becomes script (MayWrite s w c v) (v ≡ w) p q
+          (same_some (process_of s.processes v) q p other.1 e)
       | inr this ↦ absurd (let a : is_alive q.life ≡ false = ap (λ (x : Process). is_alive x.life) this.3 in cc)
     ]

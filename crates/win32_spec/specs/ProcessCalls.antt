@@ -27,8 +27,10 @@ with_made s o made = record s {
   next = s.next + 1;
 }
 
--- a process of the program stands in this slot, with the listed handles of the caller, and the caller has a handle on it
-pub record IsMade (s : Win32State) (w slot program_no : ℕ) (program : Program) (list : List ℕ) (r : Reply) (new : Win32State) : Type 0 where
+-- a process of the program stands in this slot, with the listed handles of the caller, and the caller has a handle on
+-- it
+pub record IsMade (s : Win32State) (w slot program_no : ℕ) (program : Program) (list : List ℕ) (r : Reply)
+    (new : Win32State) : Type 0 where
   pub number : ℕ
   pub fresh : IsFresh s number
   pub handled : IsHandled s
@@ -36,10 +38,12 @@ pub record IsMade (s : Win32State) (w slot program_no : ℕ) (program : Program)
       w number (λ h. reply.Made h s.next) r new
 
 -- the slot is the lowest free one
-pub record MakesIn (script : Script) (s : Win32State) (w program_no : ℕ) (program : Program) (list : List ℕ) (r : Reply) (new : Win32State) : Type 0 where
+pub record MakesIn (script : Script) (s : Win32State) (w program_no : ℕ) (program : Program) (list : List ℕ)
+    (r : Reply) (new : Win32State) : Type 0 where
   pub slot : ℕ
   pub lowest : IsLowestFreeSlot script.setup.limits.slots s.processes slot
-  pub made : MatchBool (is_full (handles_by s w) 1) (Gives reply.TableFull s r new) (IsMade s w slot program_no program list r new)
+  pub made : MatchBool (is_full (handles_by s w) 1) (Gives reply.TableFull s r new)
+      (IsMade s w slot program_no program list r new)
 
 -- `create P LIST`: a process of program P with the listed handles, its main thread suspended once. Refusals: badhandle,
 -- badindex, noslot, tablefull.
@@ -71,7 +75,8 @@ ResumeStep s w h t r new =
 
 abbrev pub SuspendStep : Win32State → ℕ → ℕ → ℕ → Reply → Win32State → Type 0
 SuspendStep s w h t r new =
-    MatchOption (process_named (object_by s w h)) (Gives reply.BadHandle s r new) (λ v. CountStep s suspended_more v t r new)
+    MatchOption (process_named (object_by s w h)) (Gives reply.BadHandle s r new)
+    (λ v. CountStep s suspended_more v t r new)
 
 -- the number of the object of process v
 abbrev pub process_object : List NumberedObject → ℕ → Option ℕ
@@ -82,7 +87,8 @@ process_object (x ∷ xs) v = if is_object_of x.object v then Some x.number else
 abbrev pub OpenStep : Win32State → ℕ → ℕ → Reply → Win32State → Type 0
 OpenStep s w v r new =
     MatchOption (process_object s.objects v)
-    (MatchBool (is_live (process_of s.processes v)) (MakesObject s w (ProcessObject v) r new) (Gives reply.Unknown s r new))
+    (MatchBool (is_live (process_of s.processes v)) (MakesObject s w (ProcessObject v) r new)
+    (Gives reply.Unknown s r new))
     (λ o. GetsHandle s w o r new)
 
 -- the code of a process, or that it is alive; one that somebody holds is there, alive or ended
@@ -104,7 +110,8 @@ ExitCodeStep s w h r new =
 abbrev pub TerminateStep : Win32State → ℕ → ℕ → ℕ → Reply → Win32State → Type 0
 TerminateStep s w h code r new =
     MatchOption (process_named (object_by s w h)) (Gives reply.BadHandle s r new) (λ v.
-    MatchBool (is_live (process_of s.processes v)) (Gives reply.Done (with_end s v code) r new) (Gives reply.Gone s r new))
+    MatchBool (is_live (process_of s.processes v)) (Gives reply.Done (with_end s v code) r new)
+    (Gives reply.Gone s r new))
 
 -- `exitself N`: the caller's process has ended with code N.
 abbrev pub ExitSelfStep : Win32State → ℕ → ℕ → Reply → Win32State → Type 0

@@ -20,7 +20,8 @@ is_signalled s w t names None = false
 is_signalled s w t names (Some (Section words)) = false
 is_signalled s w t names (Some (Event e)) = e.signalled
 is_signalled s w t names (Some (Mutex owner)) = is_free_for owner w t
-is_signalled s w t names (Some (Pipe bytes)) = is_first_end names && pipe_is_signalled (pipe_state s (object_number names) bytes)
+is_signalled s w t names (Some (Pipe bytes)) =
+    is_first_end names && pipe_is_signalled (pipe_state s (object_number names) bytes)
 is_signalled s w t names (Some (ProcessObject v)) = not (is_live (process_of s.processes v))
 is_signalled s w t names (Some (TerminalObject terminal)) =
     if is_first_end names then not (is_empty s.keys) else has_line terminal
@@ -33,7 +34,8 @@ is_handle_signalled s w t (Some names) = is_signalled s w t names (object_of s.o
 -- whether one of the handles of a wait is signalled
 abbrev pub is_some_signalled : Win32State → ℕ → ℕ → List Handle → List ℕ → Bool
 is_some_signalled s w t handles [] = false
-is_some_signalled s w t handles (h ∷ hs) = is_handle_signalled s w t (handle_of handles h) || is_some_signalled s w t handles hs
+is_some_signalled s w t handles (h ∷ hs) =
+    is_handle_signalled s w t (handle_of handles h) || is_some_signalled s w t handles hs
 
 -- Whether a posted call may be carried out: each but a wait may. A wait with an absent handle may exactly where another
 -- of its objects is signalled.
@@ -58,8 +60,8 @@ is_ready s slot t = is_process_ready s t (process_in s.processes slot)
 abbrev pub IsQuiet : Win32State → Type 0
 IsQuiet s = (slot t : ℕ) → is_ready s slot t ≡ false
 
--- How far a thread is from the last one, going round by slot and then thread: 0 for the one after it. There are 65 slots
--- with three threads each.
+-- How far a thread is from the last one, going round by slot and then thread: 0 for the one after it. There are 65
+-- slots with three threads each.
 abbrev pub distance : ℕ → ℕ → ℕ → ℕ → ℕ
 distance last_slot last_thread slot t = (3 * slot + t + 194 - (3 * last_slot + last_thread)) % 195
 

@@ -35,7 +35,14 @@ written bytes place new = take place bytes ++ new ++ drop (place + length new) b
 -- the memory of a new process, but for its program's number in the data region: zeros
 abbrev pub zeroed_own : (heap stack : ℕ) → Own
 zeroed_own heap stack =
-    record { dat = replicate 64 0; heap = replicate heap 0; stack = replicate stack 0; cyg = replicate 288 0; scratch = replicate 512 0 }
+    record {
+      dat = replicate 64 0;
+      heap = replicate heap 0;
+      stack = replicate stack 0;
+      cyg =
+          replicate 288 0;
+      scratch = replicate 512 0;
+    }
 
 -- the pages from base on, size of them, lie among the 1024 and none of them is taken
 pub record IsFreeRange (taken : List Bool) (base size : ℕ) : Type 0 where

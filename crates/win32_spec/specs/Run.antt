@@ -22,7 +22,8 @@ pub record IsThread (s : Win32State) (slot t : ℕ) (p : Process) (x : Thread) :
   pub thread : thread_in p.threads t ≡ Some x
 
 -- the call that thread t of the slot has posted is carried out
-pub record PostedStep (script : Script) (s : Win32State) (slot t : ℕ) (p : Process) (x : Thread) (reply : Reply) (new : Win32State) : Type 0 where
+pub record PostedStep (script : Script) (s : Win32State) (slot t : ℕ) (p : Process) (x : Thread) (reply : Reply)
+    (new : Win32State) : Type 0 where
   pub thread : IsThread s slot t p x
   pub step : CallStep script s p.number t x.posted reply new
 
@@ -42,7 +43,8 @@ pub record Acts (s : Win32State) (w t : ℕ) (new : Win32State) : Type 0 where
   pub after : new ≡ with_posted (with_own s w own) w t next
 
 -- a turn of a thread that is ready: its call, and what it does then if its process lives on
-pub record ReadyTurn (script : Script) (s : Win32State) (slot t : ℕ) (called : Option Call) (came : Outcome) (new : Win32State) : Type 0 where
+pub record ReadyTurn (script : Script) (s : Win32State) (slot t : ℕ) (called : Option Call) (came : Outcome)
+    (new : Win32State) : Type 0 where
   pub process : Process
   pub thread : Thread
   pub reply : Reply
@@ -50,7 +52,8 @@ pub record ReadyTurn (script : Script) (s : Win32State) (slot t : ℕ) (called :
   pub posted : PostedStep script s slot t process thread reply mid
   pub carried_out : called ≡ Some thread.posted
   pub answered : came ≡ outcome.Step reply
-  pub goes_on : MatchBool (is_live (process_of mid.processes process.number)) (Acts mid process.number t new) (new ≡ mid)
+  pub goes_on : MatchBool (is_live (process_of mid.processes process.number)) (Acts mid process.number t new)
+      (new ≡ mid)
 
 -- the code of a process that is ended from outside
 abbrev pub ended_from_outside : ℕ
@@ -68,8 +71,10 @@ with_key s b = record s { keys = s.keys ++ b ∷ [] }
 -- what a directive does, with the call and the outcome that the journal keeps of it
 abbrev pub StepBy : Script → Win32State → Directive → Option Call → Outcome → Win32State → Type 0
 StepBy script s (directive.Turn slot t) called came new =
-    MatchBool (is_ready s slot t) (ReadyTurn script s slot t called came new) ((called ≡ None) × (came ≡ outcome.Idle) × (new ≡ s))
-StepBy script s (directive.End slot) called came new = (called ≡ None) × EndStep s (process_in s.processes slot) came new
+    MatchBool (is_ready s slot t) (ReadyTurn script s slot t called came new)
+    ((called ≡ None) × (came ≡ outcome.Idle) × (new ≡ s))
+StepBy script s (directive.End slot) called came new =
+    (called ≡ None) × EndStep s (process_in s.processes slot) came new
 StepBy script s (directive.Key b) called came new = (called ≡ None) × (came ≡ outcome.Keyed) × (new ≡ with_key s b)
 
 -- one entry of a journal

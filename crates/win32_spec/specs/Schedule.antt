@@ -23,7 +23,8 @@ abbrev pub opening_position : List ScheduleLine → Position
 opening_position lines = record { lines = lines; slot = 64; thread = 2 }
 
 -- the round rule gives a turn in this state, after which these lines are left
-pub record GivesTurn (s : Win32State) (at : Position) (left : List ScheduleLine) (given : Directive) (next : Position) : Type 0 where
+pub record GivesTurn (s : Win32State) (at : Position) (left : List ScheduleLine) (given : Directive)
+    (next : Position) : Type 0 where
   pub slot : ℕ
   pub thread : ℕ
   pub ready : IsNextReady s at.slot at.thread slot thread
@@ -63,7 +64,8 @@ EndsBy budget entries s lines ending.Quiet = (entries ≤ budget) × IsDone s li
 EndsBy budget entries s lines ending.Given = (entries ≤ budget) × IsDone s lines × (IsQuiet s → ⊥)
 
 -- The journal follows the script's schedule from an opening state on, to its end or to the budget.
-pub record FollowsSchedule (script : Script) (opening : Win32State) (entries : List Entry) (last : Win32State) (end : End) : Type 0 where
+pub record FollowsSchedule (script : Script) (opening : Win32State) (entries : List Entry) (last : Win32State)
+    (end : End) : Type 0 where
   pub at : Position
   pub run : ScheduledRun script opening (opening_position script.directives) entries last at
   pub within : EndsBy script.setup.limits.budget (length entries) last at.lines end

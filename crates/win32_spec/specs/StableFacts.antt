@@ -29,7 +29,8 @@ module _ (script : Script) (s : Win32State) (d : Directive) (called : Option Cal
   -- the handles of a live process change only in its own turns
   pub handles-stay : (v : ℕ) (p q : Process) → process_of s.processes v ≡ Some p → process_of new.processes v ≡ Some q
       → is_alive q.life ≡ true → (IsTurnOf s d v → ⊥) → q.handles ≡ p.handles
-  handles-stay v p q e f alive apart = let b = other-step script s d called came new registers h step v p q e f alive apart in b.handles
+  handles-stay v p q e f alive apart = let b =
+      other-step script s d called came new registers h step v p q e f alive apart in b.handles
 
   -- its bytes change only in its own turns and by a `writemem` to it
   pub bytes-stay : (v : ℕ) (p q : Process) → process_of s.processes v ≡ Some p → process_of new.processes v ≡ Some q
@@ -38,16 +39,21 @@ module _ (script : Script) (s : Win32State) (d : Directive) (called : Option Cal
       let b = other-step script s d called came new registers h step v p q e f alive apart in b.bytes unwritten
 
 -- An object that is listed before a directive and after it.
-pub object-step : (script : Script) (s : Win32State) (d : Directive) (called : Option Call) (came : Outcome) (new : Win32State)
+pub object-step : (script : Script) (s : Win32State) (d : Directive) (called : Option Call) (came : Outcome)
+    (new : Win32State)
     → HaveRegisters script → IsWellFormed script s → StepBy script s d called came new → (o : ℕ) (x y : Object)
     → object_of s.objects o ≡ Some x → object_of new.objects o ≡ Some y → ObjectAfter s d called x y
 object-step script s (directive.Turn slot t) called came new registers h step o x y e f =
     by_bool (is_ready s slot t) (λ r turn. turn_object script s slot t called came new registers h turn o x y e f)
-    (λ r idle. inl (same_some (object_of s.objects o) y x (ap (λ (n : Win32State). object_of n.objects o) (sym idle.2) ∙ f) e)) step
-object-step script s (directive.End slot) called came new registers h step o x y e f = by_answer (process_in s.processes slot) refl step.1
+    (λ r idle. inl (same_some (object_of s.objects o) y x
+    (ap (λ (n : Win32State). object_of n.objects o) (sym idle.2) ∙ f) e)) step
+object-step script s (directive.End slot) called came new registers h step o x y e f =
+    by_answer (process_in s.processes slot) refl step.1
   where
-    by_answer : (a : Option Process) → process_in s.processes slot ≡ a → EndStep s a came new → ObjectAfter s (directive.End slot) called x y
-    by_answer None i m = inl (same_some (object_of s.objects o) y x (ap (λ (n : Win32State). object_of n.objects o) (sym m.1) ∙ f) e)
+    by_answer : (a : Option Process) → process_in s.processes slot ≡ a → EndStep s a came new
+        → ObjectAfter s (directive.End slot) called x y
+    by_answer None i m = inl
+        (same_some (object_of s.objects o) y x (ap (λ (n : Win32State). object_of n.objects o) (sym m.1) ∙ f) e)
     by_answer (Some r) i m =
         let found = process_in-found 1 s.next s.processes slot r h.formed.processes i in
         let live = found_live (process_of s.processes r.number) r found.0 found.1 in
@@ -61,9 +67,11 @@ object-step script s (directive.Key b) called came new registers h step o x y e 
     inl (same_some (object_of s.objects o) y x (ap (λ (n : Win32State). object_of n.objects o) (sym step.2) ∙ f) e)
 
 -- the process of an object is the same for ever, and a word of the section changes only by `cas` and `add`
-pub words-stay : (script : Script) (s : Win32State) (d : Directive) (called : Option Call) (came : Outcome) (new : Win32State)
+pub words-stay : (script : Script) (s : Win32State) (d : Directive) (called : Option Call) (came : Outcome)
+    (new : Win32State)
     → HaveRegisters script → IsWellFormed script s → StepBy script s d called came new → (o : ℕ) (words others : List ℕ)
-    → object_of s.objects o ≡ Some (Section words) → object_of new.objects o ≡ Some (Section others) → (IsExchange called → ⊥) → others ≡ words
+    → object_of s.objects o ≡ Some (Section words) → object_of new.objects o ≡ Some (Section others)
+    → (IsExchange called → ⊥) → others ≡ words
 words-stay script s d called came new registers h step o words others e f unchanged =
     elim (object-step script s d called came new registers h step o (Section words) (Section others) e f) [
       | inl same ↦ is_words same
@@ -77,7 +85,8 @@ words-stay script s d called came new registers h step o words others e f unchan
     is_words g = cc
 
 -- A mutex that a thread owns stays its own until it is released in a turn of that thread or its process ends.
-pub owner-stays : (script : Script) (s : Win32State) (d : Directive) (called : Option Call) (came : Outcome) (new : Win32State)
+pub owner-stays : (script : Script) (s : Win32State) (d : Directive) (called : Option Call) (came : Outcome)
+    (new : Win32State)
     → HaveRegisters script → IsWellFormed script s → StepBy script s d called came new → (o v t : ℕ) (owner : Ownership)
     → object_of s.objects o ≡ Some (Mutex (Owned v t)) → object_of new.objects o ≡ Some (Mutex owner)
     → (IsTurnOfThread s d v t → ⊥) → (owner ≡ Owned v t) ⊎ (owner ≡ Abandoned)
@@ -107,11 +116,13 @@ owner-stays script s d called came new registers h step o v t owner e f apart =
       | inr more ↦
           let its : (nat_eq v w && nat_eq t x) ≡ true = elim more [ inl freed ↦ freed.0 | inr taken ↦ taken.0 ] in
           let both = and_true (nat_eq v w) (nat_eq t x) its in
-          absurd (apart (subst (λ k. IsTurnOfThread s d k t) (sym (eqb-true v w both.0)) (subst (λ k. IsTurnOfThread s d w k) (sym (eqb-true t x both.1)) acts)))
+          absurd (apart (subst (λ k. IsTurnOfThread s d k t) (sym (eqb-true v w both.0))
+          (subst (λ k. IsTurnOfThread s d w k) (sym (eqb-true t x both.1)) acts)))
     ]
 
 -- A process that has ended stands as it was while a handle names it.
-pub ended-step : (script : Script) (s : Win32State) (d : Directive) (called : Option Call) (came : Outcome) (new : Win32State)
+pub ended-step : (script : Script) (s : Win32State) (d : Directive) (called : Option Call) (came : Outcome)
+    (new : Win32State)
     → HaveRegisters script → IsWellFormed script s → StepBy script s d called came new → (v : ℕ) (p : Process)
     → process_of s.processes v ≡ Some p → is_alive p.life ≡ false → StaysEnded new v p
 ended-step script s (directive.Turn slot t) called came new registers h step v p e dead =
@@ -126,7 +137,8 @@ ended-step script s (directive.Turn slot t) called came new registers h step v p
       | inl f ↦ inl (same ∙ f)
       | inr f ↦ inr (same ∙ f.0, turn_held script s slot t called came new registers h turn v ∙ f.1)
     ]) (λ r idle. subst (λ (n : Win32State). StaysEnded n v p) (sym idle.2) (inl e)) step
-ended-step script s (directive.End slot) called came new registers h step v p e dead = by_answer (process_in s.processes slot) refl step.1
+ended-step script s (directive.End slot) called came new registers h step v p e dead =
+    by_answer (process_in s.processes slot) refl step.1
   where
     by_answer : (a : Option Process) → process_in s.processes slot ≡ a → EndStep s a came new → StaysEnded new v p
     by_answer None i m = subst (λ (n : Win32State). StaysEnded n v p) (sym m.1) (inl e)
@@ -137,17 +149,20 @@ ended-step script s (directive.End slot) called came new registers h step v p e 
         let a : is_alive p.life ≡ true = ap (λ (x : Process). is_alive x.life) f ∙ found.1 in cc) in
         subst (λ (n : Win32State). StaysEnded n v p) (sym m.1)
         (swept-ended (with_ended s r.number ended_from_outside) v p
-        (rising-change_process r.number (ended_process ended_from_outside) (λ x. refl) 1 s.next s.processes h.formed.processes)
+        (rising-change_process r.number (ended_process ended_from_outside) (λ x. refl) 1 s.next s.processes
+        h.formed.processes)
         (process_of-change_other r.number (ended_process ended_from_outside) (λ x. refl) s.processes v apart ∙ e) dead)
 ended-step script s (directive.Key b) called came new registers h step v p e dead =
     subst (λ (n : Win32State). StaysEnded n v p) (sym step.2) (inl e)
 
-pub ended-stays : (script : Script) (s : Win32State) (d : Directive) (called : Option Call) (came : Outcome) (new : Win32State)
+pub ended-stays : (script : Script) (s : Win32State) (d : Directive) (called : Option Call) (came : Outcome)
+    (new : Win32State)
     → HaveRegisters script → IsWellFormed script s → StepBy script s d called came new → (v o : ℕ) (p : Process)
     → process_of s.processes v ≡ Some p → is_alive p.life ≡ false → object_of new.objects o ≡ Some (ProcessObject v)
     → process_of new.processes v ≡ Some p
 ended-stays script s d called came new registers h step v o p e dead held =
     elim (ended-step script s d called came new registers h step v p e dead) [
       | inl f ↦ f
-      | inr f ↦ absurd (let g : is_process_held new.objects v ≡ true = is-process_held new.objects v o held in let k = f.1 in cc)
+      | inr f ↦ absurd (let g : is_process_held new.objects v ≡ true = is-process_held new.objects v o held in let k =
+          f.1 in cc)
     ]

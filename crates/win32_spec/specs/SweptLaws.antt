@@ -13,7 +13,8 @@ use Rattle.win32_spec.specs.FormedLaws.{to_listed, from_listed, live_found, foun
 
 module _ (script : Script) (s : Win32State) (h : IsFormed script s) where
   kept : (w : ℕ) (p : Process) → process_of (kept_processes (held_objects s.processes s.objects) s.processes) w ≡ Some p
-      → (process_of s.processes w ≡ Some p) × ((is_alive p.life || is_process_held (held_objects s.processes s.objects) w) ≡ true)
+      → (process_of s.processes w ≡ Some p)
+      × ((is_alive p.life || is_process_held (held_objects s.processes s.objects) w) ≡ true)
   kept w p e = kept_process (held_objects s.processes s.objects) 1 s.next s.processes w p h.processes e
 
   stays_alive : (w : ℕ) (p : Process) → process_of s.processes w ≡ Some p → is_alive p.life ≡ true
@@ -24,19 +25,32 @@ module _ (script : Script) (s : Win32State) (h : IsFormed script s) where
 
   -- what a handle of a live process names stays listed
   stays_listed : (w : ℕ) (p : Process) → process_of s.processes w ≡ Some p → is_alive p.life ≡ true → (k names : ℕ)
-      → handle_of p.handles k ≡ Some names → IsListed s.objects names → IsListed (held_objects s.processes s.objects) names
+      → handle_of p.handles k ≡ Some names → IsListed s.objects names
+      → IsListed (held_objects s.processes s.objects) names
   stays_listed w p e alive k names n listed =
       let at = from_listed s.objects names listed in
       let held : is_object_held s.processes (object_number names) ≡ true =
       is-held s.processes (object_number names)
-      (record { number = w; process = p; found = e; alive = alive; handle = k; names = names; named = n; object = refl }) in
+      (record {
+        number = w;
+        process = p;
+        found = e;
+        alive = alive;
+        handle = k;
+        names = names;
+        named = n;
+        object =
+            refl;
+      }) in
       to_listed (held_objects s.processes s.objects) names at.0
       (held_object-stays s.processes s.objects (object_number names) at.0 at.1 held) at.2
 
-  swept_process : (w : ℕ) (p : Process) → process_of s.processes w ≡ Some p → IsProcessBy script (held_objects s.processes s.objects) p p.life
+  swept_process : (w : ℕ) (p : Process) → process_of s.processes w ≡ Some p
+      → IsProcessBy script (held_objects s.processes s.objects) p p.life
   swept_process w p e = by_life p.life refl (h.process w p e)
     where
-      by_life : (life : Life) → p.life ≡ life → IsProcessBy script s.objects p life → IsProcessBy script (held_objects s.processes s.objects) p life
+      by_life : (life : Life) → p.life ≡ life → IsProcessBy script s.objects p life
+          → IsProcessBy script (held_objects s.processes s.objects) p life
       by_life Alive l f =
           record {
             kind = f.kind;
@@ -46,15 +60,19 @@ module _ (script : Script) (s : Win32State) (h : IsFormed script s) where
           }
       by_life (Ended code) l f = record { threads = f.threads; handles = f.handles; own = f.own; placed = f.placed }
 
-  swept_object : (o : ℕ) (x : Object) → object_of (held_objects s.processes s.objects) o ≡ Some x → IsObject s.processes x
+  swept_object : (o : ℕ) (x : Object) → object_of (held_objects s.processes s.objects) o ≡ Some x
+      → IsObject s.processes x
       → IsObject (kept_processes (held_objects s.processes s.objects) s.processes) x
   swept_object o (Section words) e i = i
   swept_object o (Event event) e i = tt
   swept_object o (Mutex Free) e i = tt
   swept_object o (Mutex Abandoned) e i = tt
   swept_object o (Mutex (Owned v t)) e i =
-      let p = live_found (process_of s.processes v) i.0 in
-      (found_live (process_of (kept_processes (held_objects s.processes s.objects) s.processes) v) p.0 (stays_alive v p.0 p.1 p.2) p.2, i.1)
+      let p = live_found (process_of s.processes v) i.0 in (
+        found_live (process_of (kept_processes (held_objects s.processes s.objects) s.processes) v) p.0
+            (stays_alive v p.0 p.1 p.2) p.2,
+        i.1,
+      )
   swept_object o (Pipe bytes) e i = i
   swept_object o (ProcessObject v) e i = (
     i.0,
@@ -80,7 +98,8 @@ module _ (script : Script) (s : Win32State) (h : IsFormed script s) where
   wellformed-swept = record {
     formed = swept_formed;
     object_held = λ o x e.
-        let at = held-by 1 s.next s.processes o h.processes (have_rising script s h) (held_object s.processes s.objects o x e).1 in
+        let at = held-by 1 s.next s.processes o h.processes (have_rising script s h)
+        (held_object s.processes s.objects o x e).1 in
         is-held (kept_processes (held_objects s.processes s.objects) s.processes) o
         (record {
           number = at.number;

@@ -24,8 +24,8 @@ posted_by (Some x) = Some x.posted
 abbrev pub PostTheSame : List Thread → List Thread → Type 0
 PostTheSame xs ys = (t : ℕ) → posted_by (thread_in ys t) ≡ posted_by (thread_in xs t)
 
--- A process after such a change. Its bytes are as before unless `Written` holds, and its modules and its posted calls unless
--- `Acting` does.
+-- A process after such a change. Its bytes are as before unless `Written` holds, and its modules and its posted calls
+-- unless `Acting` does.
 pub record ProcessBecomes (script : Script) (Written Acting : Type 0) (p q : Process) : Type 0 where
   pub ended : is_alive p.life ≡ false → q ≡ p
   pub number : q.number ≡ p.number
@@ -41,8 +41,8 @@ pub record ProcessBecomes (script : Script) (Written Acting : Type 0) (p q : Pro
   pub unplaced : p.program ≡ None → q.placed ≡ p.placed
   pub placed : AreModules script.setup.modules p.placed → AreModules script.setup.modules q.placed
 
--- What an object holds after a change by thread t of process w. A section's words are as before unless `Exchanged` holds.
--- A mutex is freed by its owner alone, and taken only where it is free for the thread.
+-- What an object holds after a change by thread t of process w. A section's words are as before unless `Exchanged`
+-- holds. A mutex is freed by its owner alone, and taken only where it is free for the thread.
 abbrev pub HoldsNext : Type 0 → ℕ → ℕ → Object → Object → Type 0
 HoldsNext Exchanged w t (Section words) (Section new) = (length new ≡ length words) × ((Exchanged → ⊥) → new ≡ words)
 HoldsNext Exchanged w t (Event e) (Event new) = Unit {0}
@@ -67,9 +67,10 @@ pub record AreObjectsNext (Exchanged : Type 0) (w t : ℕ) (xs ys : List Numbere
   pub rising : (low : ℕ) → AreRisingObjects low xs → AreRisingObjects low ys
   pub object : (o : ℕ) → Both (ObjectBecomes Exchanged w t) (object_of xs o) (object_of ys o)
 
--- Such a change of a state, by thread t of process w: only the bytes of processes that are `Written` change, and the words
--- of a section only where `Exchanged` holds.
-pub record IsTame (script : Script) (Written : ℕ → Type 0) (Exchanged : Type 0) (w t : ℕ) (s new : Win32State) : Type 0 where
+-- Such a change of a state, by thread t of process w: only the bytes of processes that are `Written` change, and the
+-- words of a section only where `Exchanged` holds.
+pub record IsTame (script : Script) (Written : ℕ → Type 0) (Exchanged : Type 0) (w t : ℕ) (s new : Win32State) : Type
+    0 where
   pub next : new.next ≡ s.next
   pub processes : AreProcessesNext script Written w s.processes new.processes
   pub objects : AreObjectsNext Exchanged w t s.objects new.objects

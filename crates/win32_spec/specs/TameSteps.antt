@@ -32,10 +32,12 @@ process_same script Written Acting p = record {
   placed = λ h. h;
 }
 
-pub processes_same : (script : Script) (Written : ℕ → Type 0) (w : ℕ) (ps : List Process) → AreProcessesNext script Written w ps ps
+pub processes_same : (script : Script) (Written : ℕ → Type 0) (w : ℕ) (ps : List Process)
+    → AreProcessesNext script Written w ps ps
 processes_same script Written w ps = record {
   rising = λ low next r. r;
-  process = λ v. both_same (ProcessBecomes script (Written v) (v ≡ w)) (process_of ps v) (process_of ps v) (process_same script (Written v) (v ≡ w)) refl;
+  process = λ v. both_same (ProcessBecomes script (Written v) (v ≡ w)) (process_of ps v) (process_of ps v)
+      (process_same script (Written v) (v ≡ w)) refl;
 }
 
 both_some : {X : Type 0} (R : X → X → Type 0) (o n : Option X) (x y : X) → o ≡ Some x → n ≡ Some y → R x y → Both R o n
@@ -45,14 +47,17 @@ both_none : {X : Type 0} (R : X → X → Type 0) (o n : Option X) → o ≡ Non
 both_none {X = X} R o n e f = subst (λ k. Both R k n) (sym e) (subst (λ k. Both R None k) (sym f) tt)
 
 -- one process changes
-pub processes_change : (script : Script) (Written : ℕ → Type 0) (w : ℕ) (ps : List Process) (v : ℕ) (f : Process → Process)
-    → ((p : Process) → (f p).number ≡ p.number) → ((p : Process) → process_of ps v ≡ Some p → ProcessBecomes script (Written v) (v ≡ w) p (f p))
+pub processes_change : (script : Script) (Written : ℕ → Type 0) (w : ℕ) (ps : List Process) (v : ℕ)
+    (f : Process → Process)
+    → ((p : Process) → (f p).number ≡ p.number)
+    → ((p : Process) → process_of ps v ≡ Some p → ProcessBecomes script (Written v) (v ≡ w) p (f p))
     → AreProcessesNext script Written w ps (change_process v f ps)
 processes_change script Written w ps v f keeps becomes = record {
   rising = λ low next r. rising-change_process v f keeps low next ps r;
   process = λ u. elim (cases_eq u v) [
     | inl n ↦
-        subst (λ k. Both (ProcessBecomes script (Written k) (k ≡ w)) (process_of ps k) (process_of (change_process v f ps) k)) (sym n)
+        subst (λ k. Both (ProcessBecomes script (Written k) (k ≡ w)) (process_of ps k)
+        (process_of (change_process v f ps) k)) (sym n)
         (here (process_of ps v) refl)
     | inr d ↦
         both_same (ProcessBecomes script (Written u) (u ≡ w)) (process_of ps u) (process_of (change_process v f ps) u)
@@ -66,7 +71,8 @@ processes_change script Written w ps v f keeps becomes = record {
         both_none (ProcessBecomes script (Written v) (v ≡ w)) (process_of ps v) (process_of (change_process v f ps) v) e
         (process_of-change_none v f ps e)
     here (Some p) e =
-        both_some (ProcessBecomes script (Written v) (v ≡ w)) (process_of ps v) (process_of (change_process v f ps) v) p (f p) e
+        both_some (ProcessBecomes script (Written v) (v ≡ w)) (process_of ps v) (process_of (change_process v f ps) v)
+        p (f p) e
         (process_of-change_same v f keeps ps p e) (becomes p e)
 
 -- an object that stays as it is
@@ -84,11 +90,13 @@ object_same Exchanged w t x = record { only = refl; ends = refl; holds = holds_s
 pub objects_same : (Exchanged : Type 0) (w t : ℕ) (xs : List NumberedObject) → AreObjectsNext Exchanged w t xs xs
 objects_same Exchanged w t xs = record {
   rising = λ low r. r;
-  object = λ o. both_same (ObjectBecomes Exchanged w t) (object_of xs o) (object_of xs o) (object_same Exchanged w t) refl;
+  object = λ o. both_same (ObjectBecomes Exchanged w t) (object_of xs o) (object_of xs o) (object_same Exchanged w t)
+      refl;
 }
 
 -- one object changes
-pub objects_change : (Exchanged : Type 0) (w t : ℕ) (xs : List NumberedObject) (o : ℕ) (x y : Object) → object_of xs o ≡ Some x
+pub objects_change : (Exchanged : Type 0) (w t : ℕ) (xs : List NumberedObject) (o : ℕ) (x y : Object)
+    → object_of xs o ≡ Some x
     → ObjectBecomes Exchanged w t x y → AreObjectsNext Exchanged w t xs (change_object o y xs)
 objects_change Exchanged w t xs o x y e b = record {
   rising = λ low r. rising-change_object o y low xs r;
@@ -104,14 +112,16 @@ objects_change Exchanged w t xs o x y e b = record {
 }
 
 -- Nothing changes, one process, or one object.
-pub tame_same : (script : Script) (Written : ℕ → Type 0) (Exchanged : Type 0) (w t : ℕ) (s : Win32State) → IsTame script Written Exchanged w t s s
+pub tame_same : (script : Script) (Written : ℕ → Type 0) (Exchanged : Type 0) (w t : ℕ) (s : Win32State)
+    → IsTame script Written Exchanged w t s s
 tame_same script Written Exchanged w t s = record {
   next = refl;
   processes = processes_same script Written w s.processes;
   objects = objects_same Exchanged w t s.objects;
 }
 
-pub tame_process : (script : Script) (Written : ℕ → Type 0) (Exchanged : Type 0) (w t : ℕ) (s : Win32State) (v : ℕ) (f : Process → Process)
+pub tame_process : (script : Script) (Written : ℕ → Type 0) (Exchanged : Type 0) (w t : ℕ) (s : Win32State) (v : ℕ)
+    (f : Process → Process)
     → ((p : Process) → (f p).number ≡ p.number)
     → ((p : Process) → process_of s.processes v ≡ Some p → ProcessBecomes script (Written v) (v ≡ w) p (f p))
     → IsTame script Written Exchanged w t s (with_process s v f)
@@ -121,8 +131,10 @@ tame_process script Written Exchanged w t s v f keeps becomes = record {
   objects = objects_same Exchanged w t s.objects;
 }
 
-pub tame_object : (script : Script) (Written : ℕ → Type 0) (Exchanged : Type 0) (w t : ℕ) (s : Win32State) (o : ℕ) (x y : Object)
-    → object_of s.objects o ≡ Some x → ObjectBecomes Exchanged w t x y → IsTame script Written Exchanged w t s (with_object s o y)
+pub tame_object : (script : Script) (Written : ℕ → Type 0) (Exchanged : Type 0) (w t : ℕ) (s : Win32State) (o : ℕ)
+    (x y : Object)
+    → object_of s.objects o ≡ Some x → ObjectBecomes Exchanged w t x y
+    → IsTame script Written Exchanged w t s (with_object s o y)
 tame_object script Written Exchanged w t s o x y e b = record {
   next = refl;
   processes = processes_same script Written w s.processes;

@@ -47,13 +47,15 @@ TakeStep s w h terminal group count place r new =
     (MatchBool (is_background terminal group) (Gives reply.Background s r new)
     (MatchOption (after_take terminal count) (Gives reply.NoLine s r new) (λ taken.
     Gives (reply.Line (length taken.bytes))
-    (with_own (with_terminal s w h taken.terminal) w (record own { heap = written own.heap place taken.bytes })) r new)))
+    (with_own (with_terminal s w h taken.terminal) w (record own { heap = written own.heap place taken.bytes })) r
+    new)))
 
 -- `put G N PLACE FORCE`: N bytes of the heap are written, which changes nothing here. Refusals: badrange, background.
 abbrev pub WriteStep : Win32State → ℕ → Terminal → ℕ → ℕ → ℕ → Bool → Reply → Win32State → Type 0
 WriteStep s w terminal group count place force r new =
     MatchBool (not (is_buffer (memory_by s w) place count)) (Gives reply.BadRange s r new)
-    (MatchBool (is_background terminal group && (has_flag terminal tostop_flag && not force)) (Gives reply.Background s r new)
+    (MatchBool (is_background terminal group && (has_flag terminal tostop_flag && not force))
+    (Gives reply.Background s r new)
     (Gives (reply.Written count) s r new))
 
 -- a change of the terminal, which a background group may make by force alone. Refusals: background.
@@ -76,4 +78,5 @@ OpStep s w h terminal tty.State r new = Gives (reply.State terminal.foreground t
 -- `tty H OP`. Refusals: badhandle, and then those of the operation.
 abbrev pub TtyStep : Win32State → ℕ → ℕ → TtyOp → Reply → Win32State → Type 0
 TtyStep s w h op r new =
-    MatchOption (terminal_named (object_by s w h)) (Gives reply.BadHandle s r new) (λ terminal. OpStep s w h terminal op r new)
+    MatchOption (terminal_named (object_by s w h)) (Gives reply.BadHandle s r new)
+    (λ terminal. OpStep s w h terminal op r new)

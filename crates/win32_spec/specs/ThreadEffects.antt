@@ -24,12 +24,14 @@ pub live_of-found : (o : Option Process) (p : Process) → live_of o ≡ Some p 
 live_of-found None p e = absurd (cc)
 live_of-found (Some q) p e = by_test (is_alive q.life) refl e
   where
-    by_test : (b : Bool) → is_alive q.life ≡ b → (if b then Some q else None) ≡ Some p → (Some q ≡ Some p) × (is_alive p.life ≡ true)
+    by_test : (b : Bool) → is_alive q.life ≡ b → (if b then Some q else None) ≡ Some p
+        → (Some q ≡ Some p) × (is_alive p.life ≡ true)
     by_test true t f = let g : q ≡ p = cc in (f, rw (← g) t)
     by_test false t f = absurd (cc)
 
 -- a process whose threads alone change
-pub threads_become : (script : Script) (Written Acting : Type 0) (p : Process) (xs : List Thread) → is_alive p.life ≡ true
+pub threads_become : (script : Script) (Written Acting : Type 0) (p : Process) (xs : List Thread)
+    → is_alive p.life ≡ true
     → ((ts : List ℕ) → AreThreads ts p.threads → AreThreads ts xs) → ((Acting → ⊥) → PostTheSame p.threads xs)
     → ProcessBecomes script Written Acting p (record p { threads = xs })
 threads_become script Written Acting p xs alive keeps posted = record {
@@ -49,7 +51,8 @@ threads_become script Written Acting p xs alive keeps posted = record {
 }
 
 -- a process whose memory alone changes
-pub memory_becomes : (script : Script) (Written Acting : Type 0) (p : Process) (own : Own) → is_alive p.life ≡ true → Written → KeepsLengths p.own own
+pub memory_becomes : (script : Script) (Written Acting : Type 0) (p : Process) (own : Own) → is_alive p.life ≡ true
+    → Written → KeepsLengths p.own own
     → ProcessBecomes script Written Acting p (record p { own = own })
 memory_becomes script Written Acting p own alive written lengths = record {
   ended = λ e. absurd (cc);
@@ -68,25 +71,32 @@ memory_becomes script Written Acting p own alive written lengths = record {
 }
 
 -- one thread of others changes
-pub threads-change : (t : ℕ) (f : Thread → Thread) → ((x : Thread) → (f x).number ≡ x.number) → ((x : Thread) → x.suspended ≤ 100 → (f x).suspended ≤ 100)
+pub threads-change : (t : ℕ) (f : Thread → Thread) → ((x : Thread) → (f x).number ≡ x.number)
+    → ((x : Thread) → x.suspended ≤ 100 → (f x).suspended ≤ 100)
     → (ts : List ℕ) (xs : List Thread) → AreThreads ts xs → AreThreads ts (change_thread t f xs)
 threads-change t f number most [] [] h = tt
 threads-change t f number most [] (x ∷ xs) h = absurd h
 threads-change t f number most (n ∷ ts) [] h = absurd h
-threads-change t f number most (n ∷ ts) (x ∷ xs) h = by_test (nat_eq x.number t) (threads-change t f number most ts xs h.2)
+threads-change t f number most (n ∷ ts) (x ∷ xs) h =
+    by_test (nat_eq x.number t) (threads-change t f number most ts xs h.2)
   where
-    by_test : (b : Bool) → AreThreads ts (change_thread t f xs) → AreThreads (n ∷ ts) ((if b then f x else x) ∷ change_thread t f xs)
+    by_test : (b : Bool) → AreThreads ts (change_thread t f xs)
+        → AreThreads (n ∷ ts) ((if b then f x else x) ∷ change_thread t f xs)
     by_test true rest = (number x ∙ h.0, most x h.1, rest)
     by_test false rest = (h.0, h.1, rest)
 
 -- and keeps its posted call
-pub posted-change : (t : ℕ) (f : Thread → Thread) → ((x : Thread) → (f x).number ≡ x.number) → ((x : Thread) → (f x).posted ≡ x.posted)
+pub posted-change : (t : ℕ) (f : Thread → Thread) → ((x : Thread) → (f x).number ≡ x.number)
+    → ((x : Thread) → (f x).posted ≡ x.posted)
     → (xs : List Thread) → PostTheSame xs (change_thread t f xs)
 posted-change t f number posted [] u = refl
-posted-change t f number posted (x ∷ xs) u = by_tests (nat_eq x.number t) (nat_eq x.number u) refl (posted-change t f number posted xs u)
+posted-change t f number posted (x ∷ xs) u =
+    by_tests (nat_eq x.number t) (nat_eq x.number u) refl (posted-change t f number posted xs u)
   where
-    by_tests : (a b : Bool) → nat_eq x.number u ≡ b → posted_by (thread_in (change_thread t f xs) u) ≡ posted_by (thread_in xs u)
-        → posted_by (thread_in ((if a then f x else x) ∷ change_thread t f xs) u) ≡ posted_by (if b then Some x else thread_in xs u)
+    by_tests : (a b : Bool) → nat_eq x.number u ≡ b
+        → posted_by (thread_in (change_thread t f xs) u) ≡ posted_by (thread_in xs u)
+        → posted_by (thread_in ((if a then f x else x) ∷ change_thread t f xs) u) ≡ posted_by
+        (if b then Some x else thread_in xs u)
     by_tests true true e rest = rw (number x, e) (ap Some (posted x))
     by_tests true false e rest = rw (number x, e) rest
     by_tests false true e rest = rw e refl
@@ -112,18 +122,22 @@ count_effect script s w t c f most v x r new step =
     (Changes (tame_process script (MayWrite s w c) (MayExchange c) w t s v
     (λ q. record q { threads = change_thread x (λ y. record y { suspended = f y.suspended }) q.threads }) (λ q. refl)
     (λ q g. let same : p ≡ q = same_some (process_of s.processes v) p q found.0 g in
-    threads_become script (MayWrite s w c v) (v ≡ w) q (change_thread x (λ y. record y { suspended = f y.suspended }) q.threads)
+    threads_become script (MayWrite s w c v) (v ≡ w) q
+    (change_thread x (λ y. record y { suspended = f y.suspended }) q.threads)
     (rw (← same) found.1)
-    (λ ts h. threads-change x (λ y. record y { suspended = f y.suspended }) (λ y. refl) (λ y l. most y.suspended l) ts q.threads h)
+    (λ ts h. threads-change x (λ y. record y { suspended = f y.suspended }) (λ y. refl) (λ y l. most y.suspended l) ts
+    q.threads h)
     (λ n. posted-change x (λ y. record y { suspended = f y.suspended }) (λ y. refl) (λ y. refl) q.threads))))) m) step
 
-pub resume_effect : (script : Script) (s : Win32State) (w t h x : ℕ) (r : Reply) (new : Win32State) → ResumeStep s w h x r new
+pub resume_effect : (script : Script) (s : Win32State) (w t h x : ℕ) (r : Reply) (new : Win32State)
+    → ResumeStep s w h x r new
     → CallEffect script s w t (call.Resume h x) new
 resume_effect script s w t h x r new step =
     by_option (process_named (object_by s w h)) (λ e m. unchanged script s w t (call.Resume h x) new m.1)
     (λ v e m. count_effect script s w t (call.Resume h x) resumed resumed-most v x r new m) step
 
-pub suspend_effect : (script : Script) (s : Win32State) (w t h x : ℕ) (r : Reply) (new : Win32State) → SuspendStep s w h x r new
+pub suspend_effect : (script : Script) (s : Win32State) (w t h x : ℕ) (r : Reply) (new : Win32State)
+    → SuspendStep s w h x r new
     → CallEffect script s w t (call.Suspend h x) new
 suspend_effect script s w t h x r new step =
     by_option (process_named (object_by s w h)) (λ e m. unchanged script s w t (call.Suspend h x) new m.1)

@@ -20,7 +20,8 @@ AreRisingProcesses low next (p ∷ ps) = (low ≤ p.number) × (p.number < next)
 -- objects by rising even numbers, from `low` on
 abbrev pub AreRisingObjects : ℕ → List NumberedObject → Type 0
 AreRisingObjects low [] = Unit {0}
-AreRisingObjects low (x ∷ xs) = (low ≤ x.number) × (object_number x.number ≡ x.number) × AreRisingObjects (x.number + 1) xs
+AreRisingObjects low (x ∷ xs) = (low ≤ x.number) × (object_number x.number ≡ x.number)
+    × AreRisingObjects (x.number + 1) xs
 
 -- threads with these numbers, each suspended at most 100 times
 abbrev pub AreThreads : List ℕ → List Thread → Type 0
@@ -81,7 +82,8 @@ FitsEnd names x = has_ends x ≡ false → object_number names ≡ names
 abbrev pub IsListed : List NumberedObject → ℕ → Type 0
 IsListed objects names = MatchOption (object_of objects (object_number names)) ⊥ (FitsEnd names)
 
--- a live process: its threads are those of its slot, and its handles have rising numbers from 1 to 64 and name listed objects
+-- a live process: its threads are those of its slot, and its handles have rising numbers from 1 to 64 and name listed
+-- objects
 pub record IsLiveProcess (script : Script) (objects : List NumberedObject) (p : Process) : Type 0 where
   pub kind : MatchOption p.program (IsHost p) (IsLayerProcess script p)
   pub threads : AreThreads (threads_of p.slot) p.threads

@@ -34,7 +34,8 @@ LoadStep s w h i r new = Gives (word_reply (words_by s w h) i) s r new
 
 -- `cas H I OLD NEW`: the word found; NEW is stored exactly where that is OLD
 abbrev pub ExchangeStep : Win32State → ℕ → ℕ → ℕ → ℕ → ℕ → Reply → Win32State → Type 0
-ExchangeStep s w h i old n r new = Gives (word_reply (words_by s w h) i) (after_exchange s w h (words_by s w h) i old n) r new
+ExchangeStep s w h i old n r new =
+    Gives (word_reply (words_by s w h) i) (after_exchange s w h (words_by s w h) i old n) r new
 
 -- `add H I N`: the word found; N is added to it, which wraps
 abbrev pub AddStep : Win32State → ℕ → ℕ → ℕ → ℕ → Reply → Win32State → Type 0
