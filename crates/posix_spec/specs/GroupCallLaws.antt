@@ -16,7 +16,7 @@ use Rattle.posix_spec.specs.Signals.{continue_signal}
 use Rattle.posix_spec.specs.State.{Numbers, GroupCall, CallInProgress, NoCall, WaitCall, ForGroup, Record, PosixState, record_of}
 use Rattle.posix_spec.specs.Pending.{is_stopped}
 use Rattle.posix_spec.specs.Records.{changed_at, change_record}
-use Rattle.posix_spec.specs.Sending.{generated, owed_more, owed_for}
+use Rattle.posix_spec.specs.Sending.{generated, owed_more, owed_for, sent}
 use Rattle.posix_spec.specs.GroupCalls.{begun, killing_signal, target_group, begun_for, in_progress, progress_or, either_call, member_call}
 use Rattle.posix_spec.specs.EntryLaws.{same_number}
 use Rattle.posix_spec.specs.WellFormed.{IsUsed, AreUsed, IsGroupCall, IsWellFormedRecord, is_group_next}

@@ -42,3 +42,5 @@ pub mod ActionLaws
 pub mod HandlerLaws
 pub mod ActLaws
 pub mod GroupCallLaws
+pub mod StateLaws
+pub mod KillLaws

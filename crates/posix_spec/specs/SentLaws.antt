@@ -53,7 +53,7 @@ pub IsWellFormed-owed_more : (script : Script) (s : PosixState) (q : ℕ) → Is
 IsWellFormed-owed_more script s q w =
     IsWellFormed-change script s q owed_more w (λ old is good. Keeps-owed_more script s.used q 0 old good)
 
-owed_for_kept : (P : PosixState → Type 0) (signal : ℕ) (o : Option Record) (s : PosixState) → P s → ((q : ℕ) → P (change_record s q owed_more)) → P (owed_for signal o s)
+pub owed_for_kept : (P : PosixState → Type 0) (signal : ℕ) (o : Option Record) (s : PosixState) → P s → ((q : ℕ) → P (change_record s q owed_more)) → P (owed_for signal o s)
 owed_for_kept P signal None s h more = h
 owed_for_kept P signal (Some r) s h more =
     cond_both (nat_eq signal continue_signal && is_stopped r.life) (change_record s r.parent owed_more) s P (λ _. more r.parent) (λ _. h)
