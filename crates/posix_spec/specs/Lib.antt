@@ -44,3 +44,4 @@ pub mod ActLaws
 pub mod GroupCallLaws
 pub mod StateLaws
 pub mod KillLaws
+pub mod WaitLaws

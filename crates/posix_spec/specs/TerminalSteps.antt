@@ -11,7 +11,7 @@ use Rattle.posix_spec.specs.Numbers.{for_value, is_number}
 use Rattle.posix_spec.specs.State.{GroupCall, Record, PosixState}
 use Rattle.posix_spec.specs.Records.{change_record}
 use Rattle.posix_spec.specs.Checks.{is_allowed, sent_first, count_of, foreground_check, flags_check, read_check, write_check}
-use Rattle.posix_spec.specs.Conditions.{call_ended, answered}
+use Rattle.posix_spec.specs.Conditions.{with_results, call_ended, answered}
 use Rattle.posix_spec.specs.GroupCalls.{begun, background_call, is_complete}
 use Rattle.posix_spec.specs.KillSteps.{in_call_for}
 use Rattle.posix_spec.specs.Refusals.{check_of}
@@ -46,8 +46,13 @@ flags_step s p n r _ = None
 abbrev pub with_bytes : List ℕ → ℕ → List ℕ → List ℕ
 with_bytes bytes place new = take place bytes ++ new ++ drop (place + length new) bytes
 
-abbrev pub with_heap_bytes : ℕ → List ℕ → Record → Record
-with_heap_bytes place bytes r = record r { image = record r.image { heap = with_bytes r.image.heap place bytes } }
+abbrev pub with_heap_bytes : ℕ → List ℕ → Image → Image
+with_heap_bytes place bytes image = record image { heap = with_bytes image.heap place bytes }
+
+-- the process whose read took these bytes
+abbrev pub with_read : ℕ → List ℕ → Record → Record
+with_read place bytes r =
+    with_results (pos (length bytes)) None (record r { image = with_heap_bytes place bytes r.image })
 
 -- what a read of this count takes
 abbrev pub read_from : Terminal → ℕ → Option Taken
@@ -55,11 +60,7 @@ read_from terminal count =
     if nat_eq count 0 then Some (record { terminal = terminal; bytes = [] }) else after_take terminal count
 
 abbrev pub after_read : PosixState → ℕ → ℕ → Taken → PosixState
-after_read s p place taken =
-    answered
-    (change_record (record s { terminal = taken.terminal }) p (with_heap_bytes place taken.bytes))
-    p
-    (pos (length taken.bytes))
+after_read s p place taken = change_record (record s { terminal = taken.terminal }) p (with_read place taken.bytes)
 
 abbrev pub line_by : PosixState → ℕ → ℤ → List ℕ → ℕ → Taken → Option PosixState
 line_by s p n bytes place taken =
