@@ -45,3 +45,4 @@ pub mod GroupCallLaws
 pub mod StateLaws
 pub mod KillLaws
 pub mod WaitLaws
+pub mod ReadLaws
