@@ -46,3 +46,4 @@ pub mod StateLaws
 pub mod KillLaws
 pub mod WaitLaws
 pub mod ReadLaws
+pub mod RunLaws
