@@ -74,7 +74,7 @@ with_status p status s = if nat_eq p 2 then record s { first_status = Some statu
 
 -- its live parent is owed a CHLD
 abbrev pub died : PosixState → ℕ → ℕ → ℕ → PosixState
-died s p status parent = with_status p status (change_record (change_record s p (dead status)) parent owed_more)
+died s p status parent = change_record (with_status p status (change_record s p (dead status))) parent owed_more
 
 abbrev pub die_step : Script → PosixState → ℕ → Death → ℕ → Record → Option PosixState
 die_step script s p cause v r = if may_die script r v cause then Some (died s p v r.parent) else None

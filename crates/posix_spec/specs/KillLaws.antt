@@ -31,10 +31,10 @@ use Rattle.posix_spec.specs.StateLaws.{IsWellFormed-console, IsGroupCall-with_st
 
 -- ---- a process within a call for a group
 
-record IsInStep (script : Script) (r : Record) : Type 0 where
-  running : is_running r.life ≡ true
-  not_due : r.due ≡ false
-  next : is_group_next (next_of script r) ≡ true
+pub record IsInStep (script : Script) (r : Record) : Type 0 where
+  pub running : is_running r.life ≡ true
+  pub not_due : r.due ≡ false
+  pub next : is_group_next (next_of script r) ≡ true
 
 not_due_still : (due b : Bool) → due ≡ false → (due && b) ≡ false
 not_due_still true b e = absurd (true≢false e)
@@ -67,7 +67,7 @@ module _ (script : Script) where
       owed_for_kept (λ t. (r : Record) → record_of t p ≡ Some r → IsInStep script r) n (record_of s q) (change_record s q (generated n)) after
       (λ parent. kept_at (IsInStep script) (change_record s q (generated n)) p parent owed_more after in_step_owed)
 
-  Keeps-in_call_for : (used : Numbers) (p : ℕ) (call : GroupCall) (r : Record) → IsWellFormedRecord script used p r → IsInStep script r → IsGroupCall used call →
+  pub Keeps-in_call_for : (used : Numbers) (p : ℕ) (call : GroupCall) (r : Record) → IsWellFormedRecord script used p r → IsInStep script r → IsGroupCall used call →
       Keeps script used p r (in_call_for call r)
   Keeps-in_call_for used p call r w h g = record {
     sound = record {

@@ -47,3 +47,4 @@ pub mod KillLaws
 pub mod WaitLaws
 pub mod ReadLaws
 pub mod RunLaws
+pub mod ConsoleLaws
