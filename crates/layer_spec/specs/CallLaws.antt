@@ -28,7 +28,8 @@ use Rattle.posix_spec.specs.Groups.{has_member}
 use Rattle.posix_spec.specs.KillSteps.{killed, One, Group, target_of, kill_answer, is_answer, kill_step, group_done_by, group_done_step}
 use Rattle.posix_spec.specs.Waits.{Wait, wait_of, matching}
 use Rattle.posix_spec.specs.WaitSteps.{find_no_child, no_child_step}
-use Rattle.layer_spec.specs.FateLaws.{record_of-with_record, changed, for_value_some, guarded}
+use Rattle.posix_spec.specs.RecordLaws.{record_of-with_record, record_of-change_record}
+use Rattle.layer_spec.specs.FateLaws.{for_value_some, guarded}
 use Rattle.layer_spec.specs.Consequences.{KeepsProcess}
 use Rattle.posix_spec.specs.Run.{PosixStep}
 use Rattle.posix_spec.specs.Step.{posix_step}
@@ -68,7 +69,7 @@ forked_apart script s new p c r apart is done =
     let child_there : record_of made c ≡ Some child =
     record_of-with_record s c (child_of p r) c ∙ ap (λ b. cond b (Some child) (record_of s c)) (eq-eqb c c refl) in
     let end : with_record made p parent ≡ new =
-    sym (changed made p (with_results (pos c) None) r parent_stays) ∙ done in
+    sym (record_of-change_record made p (with_results (pos c) None) r parent_stays) ∙ done in
     let there : record_of (with_record made p parent) c ≡ Some child =
     record_of-with_record made p parent c
     ∙ (ap (λ b. cond b (Some (settled parent)) (record_of made c)) (ne_eqb c p (λ same. apart (sym same)))
@@ -121,7 +122,7 @@ executed script s new p name old is e =
     exec_by script s p name old found.0 new found.2 in
     let next : Record = settled (replaced done.0 old) in
     let there : record_of (change_record s p (replaced done.0)) p ≡ Some next =
-    ap (λ t. record_of t p) (changed s p (replaced done.0) old is)
+    ap (λ t. record_of t p) (record_of-change_record s p (replaced done.0) old is)
     ∙ (record_of-with_record s p (replaced done.0 old) p
     ∙ ap (λ b. cond b (Some next) (record_of s p)) (eq-eqb p p refl)) in (
       next,

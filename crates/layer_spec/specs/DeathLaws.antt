@@ -20,7 +20,8 @@ use Rattle.posix_spec.specs.Numbers.{natural_of}
 use Rattle.posix_spec.specs.Records.{settled, change_record}
 use Rattle.posix_spec.specs.Sending.{owed_more}
 use Rattle.layer_spec.specs.Consequences.{death_status, reaped_status}
-use Rattle.layer_spec.specs.FateLaws.{fate_in, fate_of, KeepsFates, same_fates, fates_then, owed_keeps, changed, record_of-with_record}
+use Rattle.posix_spec.specs.RecordLaws.{record_of-change_record, record_of-with_record}
+use Rattle.layer_spec.specs.FateLaws.{fate_in, fate_of, KeepsFates, same_fates, fates_then, owed_keeps}
 use Rattle.layer_spec.specs.FateSteps.{is_fateless, untouched}
 
 -- whether a number is used
@@ -63,11 +64,12 @@ carried f g u w ds es rs ts a b c d h =
 with_none : (xs more : List ℤ) → more ≡ [] → xs ≡ xs ++ more
 with_none xs more e = sym (ap (λ m. xs ++ m) e ∙ append-nil xs)
 
-pub kept : (s new : PosixState) (c : ℕ) (deaths reaped more others : List ℤ) → KeepsFates s new → more ≡ [] → others ≡ []
-    → StandsAt s c deaths reaped → StandsAt new c (deaths ++ more) (reaped ++ others)
+pub kept : (s new : PosixState) (c : ℕ) (deaths reaped more others : List ℤ) → KeepsFates s new → more ≡ []
+    → others ≡ [] → StandsAt s c deaths reaped → StandsAt new c (deaths ++ more) (reaped ++ others)
 kept s new c deaths reaped more others k a b h =
-    carried (fate_of s c) (fate_of new c) (is_used s c) (is_used new c) deaths (deaths ++ more) reaped (reaped ++ others)
-    (sym (k.fates c)) (ap (λ used. set.contains used c) (sym k.used)) (with_none deaths more a) (with_none reaped others b) h
+    carried (fate_of s c) (fate_of new c) (is_used s c) (is_used new c) deaths (deaths ++ more) reaped
+    (reaped ++ others) (sym (k.fates c)) (ap (λ used. set.contains used c) (sym k.used)) (with_none deaths more a)
+    (with_none reaped others b) h
 
 -- a process that may die hasn't died
 running_lives : (l : Life) → is_running l ≡ true → death_to_report l ≡ None
@@ -118,16 +120,18 @@ fates_of_died s p v r c is =
     let owed : KeepsFates mid (change_record mid r.parent owed_more) = owed_keeps mid r.parent in
     let all : KeepsFates mid (died s p v r.parent) =
         fates_then owed (status_keeps p v (change_record mid r.parent owed_more) (nat_eq p 2)) in
-    all.fates c ∙ (ap (λ t. fate_of t c) (changed s p (dead v) r is)
-    ∙ (ap fate_in (record_of-with_record s p (dead v r) c) ∙ fate_cond (nat_eq c p) (Some (settled (dead v r))) (record_of s c)))
+    all.fates c ∙ (ap (λ t. fate_of t c) (record_of-change_record s p (dead v) r is)
+    ∙ (ap fate_in (record_of-with_record s p (dead v r) c)
+    ∙ fate_cond (nat_eq c p) (Some (settled (dead v r))) (record_of s c)))
 
-pub used_of_died : (s : PosixState) (p v : ℕ) (r : Record) → record_of s p ≡ Some r → (died s p v r.parent).used ≡ s.used
+pub used_of_died : (s : PosixState) (p v : ℕ) (r : Record) → record_of s p ≡ Some r
+    → (died s p v r.parent).used ≡ s.used
 used_of_died s p v r is =
     let mid : PosixState = change_record s p (dead v) in
     let owed : KeepsFates mid (change_record mid r.parent owed_more) = owed_keeps mid r.parent in
     let all : KeepsFates mid (died s p v r.parent) =
         fates_then owed (status_keeps p v (change_record mid r.parent owed_more) (nat_eq p 2)) in
-    all.used ∙ ap (λ t. t.used) (changed s p (dead v) r is)
+    all.used ∙ ap (λ t. t.used) (record_of-change_record s p (dead v) r is)
 
 -- The standing of a number after an event that is about one process: `b` says whether the number is that process's.
 

@@ -37,7 +37,8 @@ use Rattle.layer_spec.specs.Moment.{Moment, Seen, events_of}
 use Rattle.layer_spec.specs.History.{IsHistory}
 use Rattle.layer_spec.specs.HistoryLaws.{history_is_posix_run}
 use Rattle.layer_spec.specs.Consequences.{ReapedOnce, death_status, reaped_status, status_of_child}
-use Rattle.layer_spec.specs.FateLaws.{fate_in, fate_of, KeepsFates, same_fates, change_keeps, record_of-with_record, record_of-without_record, for_value_some, guarded}
+use Rattle.posix_spec.specs.RecordLaws.{record_of-with_record, record_of-without_record}
+use Rattle.layer_spec.specs.FateLaws.{fate_in, fate_of, KeepsFates, same_fates, change_keeps, for_value_some, guarded}
 use Rattle.layer_spec.specs.FateEvents.{event_keeps}
 use Rattle.layer_spec.specs.DeathLaws.{is_used, Standing, StandsAt, standing_means, kept, dying_lives, natural_is, fate_cond, fates_of_died, used_of_died, die_case, reap_case, collect_case, fork_case}
 
@@ -56,20 +57,22 @@ die_stands script s new p c v cause ds rs e h =
     let n = for_value_some (natural_of v) (λ n. for_value (record_of s p) (die_step script s p cause n)) new e in
     let r = for_value_some (record_of s p) (die_step script s p cause n.0) new n.2 in
     let may = guarded (may_die script r.0 n.0 cause) (Some (died s p n.0 r.0.parent)) new r.2 in
-    let done : died s p n.0 r.0.parent ≡ new = ap (λ o. unwrap_or o new) may.1 in
+    let end : PosixState = died s p n.0 r.0.parent in
+    let more : ℤ → List ℤ = λ w. ds ++ cond (nat_eq p c) (w ∷ []) [] in
+    let done : end ≡ new = ap (λ o. unwrap_or o new) may.1 in
     let lives : (nat_eq p c ≡ true) → fate_of s c ≡ Some None = λ same.
         ap (λ q. fate_of s q) (sym (eqb-true p c same))
         ∙ (ap fate_in r.1 ∙ ap Some (dying_lives script r.0 n.0 cause may.0)) in
-    let fates : fate_of (died s p n.0 r.0.parent) c ≡ cond (nat_eq p c) (Some (Some n.0)) (fate_of s c) =
+    let fates : fate_of end c ≡ cond (nat_eq p c) (Some (Some n.0)) (fate_of s c) =
         fates_of_died s p n.0 r.0 c r.1 ∙ ap (λ b. cond b (Some (Some n.0)) (fate_of s c)) (eqb_turned c p) in
-    let stands : Standing (fate_of (died s p n.0 r.0.parent) c) (is_used s c) (ds ++ cond (nat_eq p c) (pos n.0 ∷ []) []) (rs ++ []) =
-        die_case (nat_eq p c) (fate_of s c) (fate_of (died s p n.0 r.0.parent) c) (is_used s c) n.0 ds rs fates lives h in
-    let used : is_used s c ≡ is_used (died s p n.0 r.0.parent) c =
+    let stands : Standing (fate_of end c) (is_used s c) (more (pos n.0)) (rs ++ []) =
+        die_case (nat_eq p c) (fate_of s c) (fate_of end c) (is_used s c) n.0 ds rs fates lives h in
+    let used : is_used s c ≡ is_used end c =
         ap (λ u. set.contains u c) (sym (used_of_died s p n.0 r.0 r.1)) in
-    let there : StandsAt (died s p n.0 r.0.parent) c (ds ++ cond (nat_eq p c) (pos n.0 ∷ []) []) (rs ++ []) =
-        subst (λ u. Standing (fate_of (died s p n.0 r.0.parent) c) u (ds ++ cond (nat_eq p c) (pos n.0 ∷ []) []) (rs ++ [])) used stands in
-    subst (λ t. StandsAt t c (ds ++ cond (nat_eq p c) (v ∷ []) []) (rs ++ [])) done
-    (subst (λ w. StandsAt (died s p n.0 r.0.parent) c (ds ++ cond (nat_eq p c) (w ∷ []) []) (rs ++ [])) (sym (natural_is v n.0 n.1)) there)
+    let there : StandsAt end c (more (pos n.0)) (rs ++ []) =
+        subst (λ u. Standing (fate_of end c) u (more (pos n.0)) (rs ++ [])) used stands in
+    subst (λ t. StandsAt t c (more v) (rs ++ [])) done
+    (subst (λ w. StandsAt end c (more w) (rs ++ [])) (sym (natural_is v n.0 n.1)) there)
 
 status_of_death : (v : ℤ) (d : Option ℕ) → is_optional_number v d ≡ true
     → (w : ℕ) × (Some d ≡ Some (Some w)) × (v ≡ pos w)
@@ -82,14 +85,16 @@ reaped_zombie : (wait : Wait) (n : ℕ) (v : ℤ) (o : Option Record) → is_rea
     → (w : ℕ) × (fate_in o ≡ Some (Some w)) × (v ≡ pos w)
 reaped_zombie wait n v None e = absurd (false≢true e)
 reaped_zombie wait n v (Some child) e =
-    status_of_death v (death_to_report child.life) (and_parts (is_match wait n child) (is_optional_number v (death_to_report child.life)) e).1
+    let died : Option ℕ = death_to_report child.life in
+    status_of_death v died (and_parts (is_match wait n child) (is_optional_number v died) e).1
 
 reap_stands : (script : Script) (s new : PosixState) (p c : ℕ) (q v : ℤ) (ds rs : List ℤ)
     → PosixStep script s (event.Reap p q v) new → StandsAt s c ds rs
     → StandsAt new c (ds ++ []) (rs ++ status_of_child q v c)
 unfolding posix_step
 reap_stands script s new p c q v ds rs e h =
-    let n = for_value_some (natural_of q) (λ n. for_value (record_of s p) (λ r. for_value (own_call script r) (reap_step s p v n r))) new e in
+    let n = for_value_some (natural_of q)
+        (λ n. for_value (record_of s p) (λ r. for_value (own_call script r) (reap_step s p v n r))) new e in
     let r = for_value_some (record_of s p) (λ r. for_value (own_call script r) (reap_step s p v n.0 r)) new n.2 in
     let i = for_value_some (own_call script r.0) (reap_step s p v n.0 r.0) new r.2 in
     let wait = for_value_some (wait_of p r.0 i.0) (reap_by s p n.0 v) new i.2 in
@@ -97,19 +102,22 @@ reap_stands script s new p c q v ds rs e h =
     let end : PosixState = answered_both mid p (pos n.0) v in
     let was = guarded (is_reaped wait.0 n.0 v (record_of s n.0)) (Some end) new wait.2 in
     let done : end ≡ new = ap (λ o. unwrap_or o new) was.1 in
-    let zombie : (w : ℕ) × (fate_of s n.0 ≡ Some (Some w)) × (v ≡ pos w) = reaped_zombie wait.0 n.0 v (record_of s n.0) was.0 in
+    let zombie : (w : ℕ) × (fate_of s n.0 ≡ Some (Some w)) × (v ≡ pos w) =
+        reaped_zombie wait.0 n.0 v (record_of s n.0) was.0 in
     let keeps : KeepsFates mid end = change_keeps mid p (with_results (pos n.0) (Some v)) (λ r _. refl) in
     let fates : fate_of end c ≡ cond (nat_eq n.0 c) None (fate_of s c) =
         keeps.fates c ∙ (ap fate_in (record_of-without_record s n.0 c) ∙ (fate_cond (nat_eq c n.0) None (record_of s c)
         ∙ ap (λ b. cond b None (fate_of s c)) (eqb_turned c n.0))) in
-    let at : nat_eq n.0 c ≡ true → fate_of s c ≡ Some (Some zombie.0) = λ same. ap (fate_of s) (sym (eqb-true n.0 c same)) ∙ zombie.1 in
-    let stands : Standing (fate_of end c) (is_used s c) (ds ++ []) (rs ++ cond (nat_eq n.0 c) (pos zombie.0 ∷ []) []) =
+    let more : ℤ → List ℤ = λ w. rs ++ cond (nat_eq n.0 c) (w ∷ []) [] in
+    let at : nat_eq n.0 c ≡ true → fate_of s c ≡ Some (Some zombie.0) =
+        λ same. ap (fate_of s) (sym (eqb-true n.0 c same)) ∙ zombie.1 in
+    let stands : Standing (fate_of end c) (is_used s c) (ds ++ []) (more (pos zombie.0)) =
         reap_case (nat_eq n.0 c) (fate_of s c) (fate_of end c) (is_used s c) zombie.0 ds rs fates at h in
     let used : is_used s c ≡ is_used end c = ap (λ u. set.contains u c) (sym keeps.used) in
-    let there : StandsAt end c (ds ++ []) (rs ++ cond (nat_eq n.0 c) (pos zombie.0 ∷ []) []) =
-        subst (λ u. Standing (fate_of end c) u (ds ++ []) (rs ++ cond (nat_eq n.0 c) (pos zombie.0 ∷ []) [])) used stands in
+    let there : StandsAt end c (ds ++ []) (more (pos zombie.0)) =
+        subst (λ u. Standing (fate_of end c) u (ds ++ []) (more (pos zombie.0))) used stands in
     let status : StandsAt end c (ds ++ []) (rs ++ status_of_child (pos n.0) v c) =
-        subst (λ w. StandsAt end c (ds ++ []) (rs ++ cond (nat_eq n.0 c) (w ∷ []) [])) (sym zombie.2) there in
+        subst (λ w. StandsAt end c (ds ++ []) (more w)) (sym zombie.2) there in
     subst (λ t. StandsAt t c (ds ++ []) (rs ++ status_of_child q v c)) done
     (subst (λ w. StandsAt end c (ds ++ []) (rs ++ status_of_child w v c)) (sym (natural_is q n.0 n.1)) status)
 
@@ -126,7 +134,8 @@ collect_stands script s new p c ds rs e h =
     let test : Bool = is_zombie r.0.life && not (is_live_at (record_of s r.0.parent)) in
     let was = guarded test (Some (without_record s p)) new r.2 in
     let done : without_record s p ≡ new = ap (λ o. unwrap_or o new) was.1 in
-    let zombie = zombie_fate r.0 r.0.life refl (and_parts (is_zombie r.0.life) (not (is_live_at (record_of s r.0.parent))) was.0).0 in
+    let zombie = zombie_fate r.0 r.0.life refl
+        (and_parts (is_zombie r.0.life) (not (is_live_at (record_of s r.0.parent))) was.0).0 in
     let fates : fate_of (without_record s p) c ≡ cond (nat_eq p c) None (fate_of s c) =
         ap fate_in (record_of-without_record s p c) ∙ (fate_cond (nat_eq c p) None (record_of s c)
         ∙ ap (λ b. cond b None (fate_of s c)) (eqb_turned c p)) in
@@ -149,7 +158,8 @@ fresh_forked script s p n r instr.Fork new e =
     let was = guarded (few && is_fresh script s n) (Some end) new e in
     let fresh : is_fresh script s n ≡ true = (and_parts few (is_fresh script s n) was.0).1 in
     let above : Bool = nat_le n (script.setup.limits.rows + 1) in
-    let unused = (and_parts above (not (is_used s n)) (and_parts (nat_le 2 n) (above && not (is_used s n)) fresh).1).1 in
+    let ranged = and_parts (nat_le 2 n) (above && not (is_used s n)) fresh in
+    let unused = (and_parts above (not (is_used s n)) ranged.1).1 in
     (not_so (is_used s n) unused, ap (λ o. unwrap_or o new) was.1)
 fresh_forked script s p n r _ new e = absurd (none-some new e)
 
@@ -217,7 +227,8 @@ opening_fates script c =
     let none : Option Record = map.get (map.empty {X = Record} {R = nat_cmp}) c in
     ap fate_in (map.get-insert nat_cmp_total map.empty 2 first c)
     ∙ (ap (λ b. fate_in (cond b (Some first) none)) (unsigned_tied c 2)
-    ∙ (ap (λ o. fate_in (cond (nat_eq c 2) (Some first) o)) (map.get-empty nat_cmp c) ∙ fate_cond (nat_eq c 2) (Some first) None))
+    ∙ (ap (λ o. fate_in (cond (nat_eq c 2) (Some first) o)) (map.get-empty nat_cmp c)
+    ∙ fate_cond (nat_eq c 2) (Some first) None))
 
 opening_used : (script : Script) (c : ℕ) → is_used (opening_of script) c ≡ (nat_eq c 2 || false)
 opening_used script c =
@@ -230,8 +241,8 @@ opening_stands script c =
     opening_case (nat_eq c 2) (fate_of (opening_of script) c) (is_used (opening_of script) c) (opening_fates script c)
     (opening_used script c)
 
-number_means : (script : Script) (es : List Event) (new : PosixState) (c : ℕ) → PosixRun script (opening_of script) es new
-    → (length (flat_map (death_status c) es) ≤ 1)
+number_means : (script : Script) (es : List Event) (new : PosixState) (c : ℕ)
+    → PosixRun script (opening_of script) es new → (length (flat_map (death_status c) es) ≤ 1)
       × ((flat_map (reaped_status c) es ≡ []) ⊎ (flat_map (reaped_status c) es ≡ flat_map (death_status c) es))
 number_means script es new c run =
     standing_means (fate_of new c) (is_used new c) (flat_map (death_status c) es) (flat_map (reaped_status c) es)
@@ -249,8 +260,9 @@ used_there : (d : Option ℕ) (u : Bool) (ds rs : List ℤ) → Standing (Some d
 used_there None u ds rs h = h.0
 used_there (Some v) u ds rs h = h.0
 
-pub run_uses_numbers : (script : Script) (es : List Event) (new : PosixState) → PosixRun script (opening_of script) es new
-    → (p : ℕ) (r : Record) → record_of new p ≡ Some r → is_used new p ≡ true
+pub run_uses_numbers : (script : Script) (es : List Event) (new : PosixState)
+    → PosixRun script (opening_of script) es new → (p : ℕ) (r : Record) → record_of new p ≡ Some r
+    → is_used new p ≡ true
 run_uses_numbers script es new run p r is =
     let deaths : List ℤ = flat_map (death_status p) es in
     let reaped : List ℤ = flat_map (reaped_status p) es in

@@ -38,26 +38,30 @@ event_keeps script s (event.Run p n) new f e =
     process_keeps s p (run_step script s p n) new (λ r _ g.
     keeps_if s _ _ new (guarded _ _ new g).1 (change_keeps s p (with_block script) (λ r _. refl))) e
 event_keeps script s (event.Get p field v) new f e =
-    call_keeps script s p (get_step s p field v) new (λ r i _ g. keeps_if s _ _ new g (answered_keeps s s p v (same_fates s))) e
+    call_keeps script s p (get_step s p field v) new
+    (λ r i _ g. keeps_if s _ _ new g (answered_keeps s s p v (same_fates s))) e
 event_keeps script s (event.Fork p c) new f e = absurd (false≢true f)
 event_keeps script s (event.ForkFail p cause) new f e =
     call_keeps script s p (fork_fail_step s p cause) new (λ r i _ g. fork_fail_keeps s p cause r i new g) e
 event_keeps script s (event.Exec p name) new f e =
     call_keeps script s p (exec_step script s p name) new (λ r i _ g. exec_keeps script s p name r i new g) e
 event_keeps script s (event.ExecFail p cause) new f e =
-    call_keeps script s p (exec_fail_step script s p cause) new (λ r i _ g. exec_fail_keeps script s p cause r i new g) e
+    call_keeps script s p (exec_fail_step script s p cause) new
+    (λ r i _ g. exec_fail_keeps script s p cause r i new g) e
 event_keeps script s (event.Kill p q signal answer) new f e =
     call_keeps script s p (kill_step s p q signal answer) new (λ r i _ g. kill_keeps s p q signal answer r i new g) e
 event_keeps script s (event.Member p q signal) new f e =
     numbers_keep s q signal (member_of script s p) new (λ a b g. member_keeps script s p a b new g) e
 event_keeps script s (event.GroupDone p g signal answer) new f e =
-    numbers_keep s g signal (group_done_of script s p answer) new (λ a b h. group_done_keeps script s p answer a b new h) e
+    numbers_keep s g signal (group_done_of script s p answer) new
+    (λ a b h. group_done_keeps script s p answer a b new h) e
 event_keeps script s (event.Look p c) new f e =
     number_keeps s c (λ n. for_call script s p (look_step s p n)) new (λ n g.
     call_keeps script s p (look_step s p n) new (λ r i _ h. value_keeps s (wait_of p r i) (look_by s p n) new
     (λ wait k. keeps_if s _ _ new k (change_keeps s p (with_look n) (λ r _. refl))) h) g) e
 event_keeps script s (event.Block p) new f e =
-    call_keeps script s p (block_step s p) new (λ r i _ g. keeps_if s _ _ new g (change_keeps s p blocked (λ r _. refl))) e
+    call_keeps script s p (block_step s p) new
+    (λ r i _ g. keeps_if s _ _ new g (change_keeps s p blocked (λ r _. refl))) e
 event_keeps script s (event.Nothing p) new f e =
     call_keeps script s p (nothing_step s p) new (λ r i _ g. value_keeps s (wait_of p r i) (find_nothing s p r) new
     (λ wait h. keeps_if s _ _ new h (answered_both_keeps s s p (pos 0) (pos 0) (same_fates s))) g) e

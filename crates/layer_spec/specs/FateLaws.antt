@@ -1,8 +1,6 @@
 -- What becomes of each process in a step of the POSIX machine: whether it is there, and with which status it has died.
 use Rattle.std.specs.Prelude.{◌≡◌, ℕ, ℤ, Bool, true, false, cond, ◌&&◌, nat_eq, Option, Some, None}
 use Rattle.std.specs.Option.{option_map, unwrap_or}
-use Rattle.std.specs.Cmp.{nat_cmp_total, unsigned_tied}
-use Rattle.std.specs.FinMap as map
 use Rattle.std.proofs.Common.{refl, sym, ap, subst, ◌∙◌}
 use Rattle.std.proofs.lemmas.Bool.{eqb-true}
 use Rattle.std.proofs.lemmas.Option.{none-some}
@@ -11,7 +9,8 @@ use Rattle.w32_base.specs.declared.instr.Instr.{Instr}
 use Rattle.posix_spec.specs.Numbers.{for_value}
 use Rattle.posix_spec.specs.State.{Life, Running, Stopped, Zombie, Record, PosixState, record_of}
 use Rattle.posix_spec.specs.Pending.{is_live, is_stopped}
-use Rattle.posix_spec.specs.Records.{settled, with_record, without_record, changed_at, change_record}
+use Rattle.posix_spec.specs.Records.{settled, with_record, changed_at, change_record}
+use Rattle.posix_spec.specs.RecordLaws.{record_of-with_record}
 use Rattle.posix_spec.specs.Conditions.{own_call, group_step_call, for_process, for_call, for_group_step, with_results, answered, answered_both}
 use Rattle.posix_spec.specs.Signals.{continue_signal}
 use Rattle.posix_spec.specs.Waits.{death_to_report}
@@ -35,24 +34,10 @@ same_fates s = record { fates = λ c. refl; used = refl }
 pub fates_then : {s mid new : PosixState} → KeepsFates s mid → KeepsFates mid new → KeepsFates s new
 fates_then a b = record { fates = λ c. b.fates c ∙ a.fates c; used = b.used ∙ a.used }
 
-pub record_of-with_record : (s : PosixState) (p : ℕ) (r : Record) (q : ℕ) →
-    record_of (with_record s p r) q ≡ cond (nat_eq q p) (Some (settled r)) (record_of s q)
-record_of-with_record s p r q =
-    map.get-insert nat_cmp_total s.records p (settled r) q
-    ∙ ap (λ b. cond b (Some (settled r)) (record_of s q)) (unsigned_tied q p)
-
-pub record_of-without_record : (s : PosixState) (p q : ℕ) →
-    record_of (without_record s p) q ≡ cond (nat_eq q p) None (record_of s q)
-record_of-without_record s p q =
-    map.get-remove nat_cmp_total s.records p q ∙ ap (λ b. cond b None (record_of s q)) (unsigned_tied q p)
-
-pub changed : (s : PosixState) (p : ℕ) (change : Record → Record) (r : Record) → record_of s p ≡ Some r
-    → change_record s p change ≡ with_record s p (change r)
-changed s p change r is = ap (changed_at s p change) is
-
 -- a process is changed that lives on, or has died with the same status
 fate_at : (s : PosixState) (p c : ℕ) (old new : Record) (b : Bool) → nat_eq c p ≡ b → record_of s p ≡ Some old
-    → death_to_report new.life ≡ death_to_report old.life → fate_in (cond b (Some (settled new)) (record_of s c)) ≡ fate_of s c
+    → death_to_report new.life ≡ death_to_report old.life
+    → fate_in (cond b (Some (settled new)) (record_of s c)) ≡ fate_of s c
 fate_at s p c old new true same is keeps =
     ap Some keeps ∙ sym (ap fate_in (subst (λ n. record_of s n ≡ Some old) (sym (eqb-true c p same)) is))
 fate_at s p c old new false same is keeps = refl
@@ -146,8 +131,8 @@ process_keeps s p step new each e =
     let r = for_value_some (record_of s p) step new e in
     each r.0 r.1 r.2
 
-pub call_keeps : (script : Script) (s : PosixState) (p : ℕ) (step : Record → Instr → Option PosixState) (new : PosixState)
-    → ((r : Record) (i : Instr) → record_of s p ≡ Some r → step r i ≡ Some new → KeepsFates s new)
+pub call_keeps : (script : Script) (s : PosixState) (p : ℕ) (step : Record → Instr → Option PosixState)
+    (new : PosixState) → ((r : Record) (i : Instr) → record_of s p ≡ Some r → step r i ≡ Some new → KeepsFates s new)
     → for_call script s p step ≡ Some new → KeepsFates s new
 call_keeps script s p step new each e =
     let r = for_value_some (record_of s p) (λ r. for_value (own_call script r) (step r)) new e in
@@ -168,4 +153,5 @@ answered_keeps s mid p r0 keeps = fates_then keeps (change_keeps mid p (with_res
 
 pub answered_both_keeps : (s mid : PosixState) (p : ℕ) (r0 r1 : ℤ) → KeepsFates s mid
     → KeepsFates s (answered_both mid p r0 r1)
-answered_both_keeps s mid p r0 r1 keeps = fates_then keeps (change_keeps mid p (with_results r0 (Some r1)) (λ r _. refl))
+answered_both_keeps s mid p r0 r1 keeps =
+    fates_then keeps (change_keeps mid p (with_results r0 (Some r1)) (λ r _. refl))

@@ -57,8 +57,8 @@ numbers_keep s v w step new each e =
     number_keeps s v (λ m. for_value (natural_of w) (step m)) new (λ m f. number_keeps s w (step m) new (each m) f) e
 
 -- a step of one kind or of another
-branch_keeps : (s : PosixState) (b : Bool) (x y : Option PosixState) (new : PosixState) → (x ≡ Some new → KeepsFates s new)
-    → (y ≡ Some new → KeepsFates s new) → cond b x y ≡ Some new → KeepsFates s new
+branch_keeps : (s : PosixState) (b : Bool) (x y : Option PosixState) (new : PosixState)
+    → (x ≡ Some new → KeepsFates s new) → (y ≡ Some new → KeepsFates s new) → cond b x y ≡ Some new → KeepsFates s new
 branch_keeps s true x y new left right e = left e
 branch_keeps s false x y new left right e = right e
 
@@ -84,8 +84,8 @@ exec_keeps script s p name r (instr.Exec wanted) new e =
     exec_to_keeps s p (program_named script name) new (guarded _ _ new e).1
 exec_keeps script s p name r _ new e = absurd (none-some new e)
 
-pub exec_fail_keeps : (script : Script) (s : PosixState) (p : ℕ) (cause : ExecCause) (r : Record) (i : Instr) (new : PosixState)
-    → exec_fail_step script s p cause r i ≡ Some new → KeepsFates s new
+pub exec_fail_keeps : (script : Script) (s : PosixState) (p : ℕ) (cause : ExecCause) (r : Record) (i : Instr)
+    (new : PosixState) → exec_fail_step script s p cause r i ≡ Some new → KeepsFates s new
 exec_fail_keeps script s p cause r (instr.Exec name) new e =
     keeps_if s _ _ new e (answered_keeps s s p (exec_result cause) (same_fates s))
 exec_fail_keeps script s p cause r _ new e = absurd (none-some new e)
@@ -149,8 +149,8 @@ action_keeps s p n signal r (instr.Action v a) new e = keeps_if s _ _ new e
     (change_keeps s p (acting signal a) (λ r _. acting_keeps (takes_away a signal) signal a r)))
 action_keeps s p n signal r _ new e = absurd (none-some new e)
 
-pub suspend_keeps : (s : PosixState) (p m : ℕ) (r : Record) (i : Instr) (new : PosixState) → suspend_step s p m r i ≡ Some new
-    → KeepsFates s new
+pub suspend_keeps : (s : PosixState) (p m : ℕ) (r : Record) (i : Instr) (new : PosixState)
+    → suspend_step s p m r i ≡ Some new → KeepsFates s new
 suspend_keeps s p m r (instr.Suspend v) new e = keeps_if s _ _ new e (change_keeps s p (suspended m) (λ r _. refl))
 suspend_keeps s p m r _ new e = absurd (none-some new e)
 
@@ -159,8 +159,8 @@ pub return_keeps : (s : PosixState) (p : ℕ) (r : Record) (i : Instr) (new : Po
 return_keeps s p r instr.Return new e = keeps_if s true _ new e (change_keeps s p returned (λ r _. refl))
 return_keeps s p r _ new e = absurd (none-some new e)
 
-pub deliver_keeps : (script : Script) (s : PosixState) (p signal : ℕ) (how : Delivery) (r : Record) (a : Action) (new : PosixState)
-    → deliver_by script s p signal how r a ≡ Some new → KeepsFates s new
+pub deliver_keeps : (script : Script) (s : PosixState) (p signal : ℕ) (how : Delivery) (r : Record) (a : Action)
+    (new : PosixState) → deliver_by script s p signal how r a ≡ Some new → KeepsFates s new
 deliver_keeps script s p signal how r action.Default new e = absurd (none-some new e)
 deliver_keeps script s p signal how r action.Ignore new e = absurd (none-some new e)
 deliver_keeps script s p signal how r (action.Handler target restart) new e = keeps_if s _ _ new e
@@ -179,14 +179,14 @@ setsid_keeps s p r instr.SetSid new e = keeps_if s _ _ new e
     (change_keeps s p (leading_session p) (λ r _. refl)))
 setsid_keeps s p r _ new e = absurd (none-some new e)
 
-pub tcset_keeps : (s : PosixState) (p g : ℕ) (r : Record) (i : Instr) (new : PosixState) → tcset_step s p g r i ≡ Some new
-    → KeepsFates s new
+pub tcset_keeps : (s : PosixState) (p g : ℕ) (r : Record) (i : Instr) (new : PosixState)
+    → tcset_step s p g r i ≡ Some new → KeepsFates s new
 tcset_keeps s p g r (instr.TcSet v) new e = keeps_if s _ _ new e
     (answered_keeps s (with_foreground s g) p (pos 0) (untouched s (with_foreground s g) refl refl))
 tcset_keeps s p g r _ new e = absurd (none-some new e)
 
-pub flags_keeps : (s : PosixState) (p n : ℕ) (r : Record) (i : Instr) (new : PosixState) → flags_step s p n r i ≡ Some new
-    → KeepsFates s new
+pub flags_keeps : (s : PosixState) (p n : ℕ) (r : Record) (i : Instr) (new : PosixState)
+    → flags_step s p n r i ≡ Some new → KeepsFates s new
 flags_keeps s p n r (instr.TtyFlags v) new e = keeps_if s _ _ new e
     (answered_keeps s (with_flags s n) p (pos 0) (untouched s (with_flags s n) refl refl))
 flags_keeps s p n r _ new e = absurd (none-some new e)
@@ -217,7 +217,8 @@ running_lives Running e = refl
 running_lives (Stopped signal) e = refl
 running_lives (Zombie v) e = absurd (false≢true e)
 
-same_there : (s : PosixState) (p : ℕ) (r other : Record) → record_of s p ≡ Some r → record_of s p ≡ Some other → r ≡ other
+same_there : (s : PosixState) (p : ℕ) (r other : Record) → record_of s p ≡ Some r → record_of s p ≡ Some other
+    → r ≡ other
 same_there s p r other a b = ap (λ o. unwrap_or o r) (sym a ∙ b)
 
 pub stop_keeps : (s : PosixState) (p signal : ℕ) (r : Record) (new : PosixState) → record_of s p ≡ Some r
@@ -225,7 +226,8 @@ pub stop_keeps : (s : PosixState) (p signal : ℕ) (r : Record) (new : PosixStat
 stop_keeps s p signal r new is e =
     let runs : is_running r.life ≡ true = (and_parts _ _ (and_parts _ _ (guarded _ _ new e).0).0).0 in
     let change : KeepsFates s (change_record s p (stopped signal)) = change_keeps s p (stopped signal)
-        (λ other there. sym (ap (λ (q : Record). death_to_report q.life) (sym (same_there s p r other is there)) ∙ running_lives r.life runs)) in
+        (λ other there. sym (ap (λ (q : Record). death_to_report q.life) (sym (same_there s p r other is there))
+        ∙ running_lives r.life runs)) in
     keeps_if s _ _ new e (fates_then change (owed_keeps (change_record s p (stopped signal)) r.parent))
 
 -- Each of these events leaves all fates as they are.
