@@ -70,15 +70,22 @@ die_stands script s new p c v cause ds rs e h =
     let used : is_used s c ≡ is_used end c =
         ap (λ u. set.contains u c) (sym (used_of_died s p n.0 r.0 r.1)) in
     let there : StandsAt end c (more (pos n.0)) (rs ++ []) =
-        subst (λ u. Standing (fate_of end c) u (more (pos n.0)) (rs ++ [])) used stands in
-    subst (λ t. StandsAt t c (more v) (rs ++ [])) done
-    (subst (λ w. StandsAt end c (more w) (rs ++ [])) (sym (natural_is v n.0 n.1)) there)
+        subst (λ u. Standing (fate_of end c) u (more (pos n.0)) (rs ++ [])) {x = is_used s c} used stands in
+    subst (λ t. StandsAt t c (more v) (rs ++ [])) {x = end} done
+    (subst (λ w. StandsAt end c (more w) (rs ++ [])) {x = pos n.0} (sym (natural_is v n.0 n.1)) there)
 
 status_of_death : (v : ℤ) (d : Option ℕ) → is_optional_number v d ≡ true
     → (w : ℕ) × (Some d ≡ Some (Some w)) × (v ≡ pos w)
 status_of_death v None e = absurd (false≢true e)
 status_of_death (pos m) (Some w) e = (w, refl, ap pos (eqb-true m w e))
 status_of_death (negsuc m) (Some w) e = absurd (false≢true e)
+
+-- the fates where one process is taken away
+gone_fates : (s end : PosixState) (n c : ℕ) → KeepsFates (without_record s n) end
+    → fate_of end c ≡ cond (nat_eq n c) None (fate_of s c)
+gone_fates s end n c keeps =
+    keeps.fates c ∙ (ap fate_in (record_of-without_record s n c) ∙ (fate_cond (nat_eq c n) None (record_of s c)
+    ∙ ap (λ b. cond b None (fate_of s c)) (eqb_turned c n)))
 
 -- the zombie that is reaped, and its status
 reaped_zombie : (wait : Wait) (n : ℕ) (v : ℤ) (o : Option Record) → is_reaped wait n v o ≡ true
@@ -105,9 +112,7 @@ reap_stands script s new p c q v ds rs e h =
     let zombie : (w : ℕ) × (fate_of s n.0 ≡ Some (Some w)) × (v ≡ pos w) =
         reaped_zombie wait.0 n.0 v (record_of s n.0) was.0 in
     let keeps : KeepsFates mid end = change_keeps mid p (with_results (pos n.0) (Some v)) (λ r _. refl) in
-    let fates : fate_of end c ≡ cond (nat_eq n.0 c) None (fate_of s c) =
-        keeps.fates c ∙ (ap fate_in (record_of-without_record s n.0 c) ∙ (fate_cond (nat_eq c n.0) None (record_of s c)
-        ∙ ap (λ b. cond b None (fate_of s c)) (eqb_turned c n.0))) in
+    let fates : fate_of end c ≡ cond (nat_eq n.0 c) None (fate_of s c) = gone_fates s end n.0 c keeps in
     let more : ℤ → List ℤ = λ w. rs ++ cond (nat_eq n.0 c) (w ∷ []) [] in
     let at : nat_eq n.0 c ≡ true → fate_of s c ≡ Some (Some zombie.0) =
         λ same. ap (fate_of s) (sym (eqb-true n.0 c same)) ∙ zombie.1 in
@@ -115,11 +120,12 @@ reap_stands script s new p c q v ds rs e h =
         reap_case (nat_eq n.0 c) (fate_of s c) (fate_of end c) (is_used s c) zombie.0 ds rs fates at h in
     let used : is_used s c ≡ is_used end c = ap (λ u. set.contains u c) (sym keeps.used) in
     let there : StandsAt end c (ds ++ []) (more (pos zombie.0)) =
-        subst (λ u. Standing (fate_of end c) u (ds ++ []) (more (pos zombie.0))) used stands in
+        subst (λ u. Standing (fate_of end c) u (ds ++ []) (more (pos zombie.0))) {x = is_used s c} used stands in
     let status : StandsAt end c (ds ++ []) (rs ++ status_of_child (pos n.0) v c) =
-        subst (λ w. StandsAt end c (ds ++ []) (more w)) (sym zombie.2) there in
-    subst (λ t. StandsAt t c (ds ++ []) (rs ++ status_of_child q v c)) done
-    (subst (λ w. StandsAt end c (ds ++ []) (rs ++ status_of_child w v c)) (sym (natural_is q n.0 n.1)) status)
+        subst (λ w. StandsAt end c (ds ++ []) (more w)) {x = pos zombie.0} (sym zombie.2) there in
+    subst (λ t. StandsAt t c (ds ++ []) (rs ++ status_of_child q v c)) {x = end} done
+    (subst (λ w. StandsAt end c (ds ++ []) (rs ++ status_of_child w v c)) {x = pos n.0}
+    (sym (natural_is q n.0 n.1)) status)
 
 zombie_fate : (r : Record) (l : Life) → r.life ≡ l → is_zombie l ≡ true → (w : ℕ) × (death_to_report r.life ≡ Some w)
 zombie_fate r Running is e = absurd (false≢true e)
@@ -137,8 +143,7 @@ collect_stands script s new p c ds rs e h =
     let zombie = zombie_fate r.0 r.0.life refl
         (and_parts (is_zombie r.0.life) (not (is_live_at (record_of s r.0.parent))) was.0).0 in
     let fates : fate_of (without_record s p) c ≡ cond (nat_eq p c) None (fate_of s c) =
-        ap fate_in (record_of-without_record s p c) ∙ (fate_cond (nat_eq c p) None (record_of s c)
-        ∙ ap (λ b. cond b None (fate_of s c)) (eqb_turned c p)) in
+        gone_fates s (without_record s p) p c (same_fates (without_record s p)) in
     let at : nat_eq p c ≡ true → fate_of s c ≡ Some (Some zombie.0) = λ same.
         ap (fate_of s) (sym (eqb-true p c same)) ∙ (ap fate_in r.1 ∙ ap Some zombie.1) in
     subst (λ t. StandsAt t c (ds ++ []) (rs ++ [])) done
