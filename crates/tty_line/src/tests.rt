@@ -1,5 +1,7 @@
 //! The line discipline at its edges.
 
+ghost use Rattle.std.specs.Prelude.{◌≤◌};
+
 use crate::Tty;
 use w32_base::Pid;
 
@@ -87,18 +89,10 @@ fn a_line_has_at_most_254_bytes_before_its_end(rt: HostRuntime) {
     assert!(rt; tty.key(b'y').echo.as_slice() == b"y".as_slice());
     assert!(rt; tty.key(b'z').echo.is_empty());
     tty.key(b'\n');
-    let mut left = 255;
-    while tty.has_line() {
-        let Some(taken) = tty.take_line(64) else {
-            break
-        };
-        assert!(rt; taken.len() <= left);
-        left -= taken.len();
-        if left == 0 {
-            assert!(rt; taken.get(taken.len() - 1) == Some(b'\n'));
-        }
-    }
-    assert!(rt; left == 0);
+    assert!(rt; takes(&mut tty, 64, &[b'x'; 64]) && takes(&mut tty, 64, &[b'x'; 64]));
+    assert!(rt; takes(&mut tty, 64, &[b'x'; 64]) && takes(&mut tty, 61, &[b'x'; 61]));
+    assert!(rt; takes(&mut tty, 64, b"y\n"));
+    assert!(rt; !tty.has_line());
 }
 
 #[test]
