@@ -1,5 +1,5 @@
 -- The ends of a pipe, and the replies that its results stand for.
-use Rattle.std.specs.Prelude.{ℕ, Result, Ok, Err}
+use Rattle.std.specs.Prelude.{ℕ, ◌≤◌, length, Result, Ok, Err}
 use Rattle.w32_base.specs.declared.call.Reply.{Reply}
 use Rattle.w32_base.specs.declared.call.Reply.TheVariants as reply
 use Rattle.win32_spec.specs.Objects.{PipeState}
@@ -9,6 +9,12 @@ use Rattle.w32_sync.specs.declared.pipe.PutFault.{PutFault}
 use Rattle.w32_sync.specs.declared.pipe.PutFault.TheVariants as put
 use Rattle.w32_sync.specs.declared.pipe.GetFault.{GetFault}
 use Rattle.w32_sync.specs.declared.pipe.GetFault.TheVariants as get
+
+-- what a pipe has at the most: 64 bytes, and on each end a handle for each of the 64 that 65 processes may have
+pub record IsInBounds (p : PipeState) : Type 0 where
+  pub bytes : length p.bytes ≤ 64
+  pub readers : p.readers ≤ 4160
+  pub writers : p.writers ≤ 4160
 
 -- how many handles there are on an end
 abbrev pub handles_on : PipeState → PipeEnd → ℕ

@@ -2,7 +2,7 @@
 
 ghost use Rattle.std.specs.Prelude.{◌≡◌, ◌+◌, ◌-◌, ◌<◌, ◌≤◌, ◌↔◌, [], ◌∷◌, ◌++◌, length, IfOk, OnErr};
 ghost use Rattle.win32_spec.specs.Objects.{PipeState, pipe_is_signalled, put_reply, put_after, get_reply, get_after};
-ghost use Rattle.w32_sync.specs.Ends.{handles_on, with_handles, reply_of_put, reply_of_get};
+ghost use Rattle.w32_sync.specs.Ends.{IsInBounds, handles_on, with_handles, reply_of_put, reply_of_get};
 
 use std::marker::Model;
 use win32_spec::PIPE_ROOM;
@@ -78,7 +78,8 @@ impl Pipe {
     /// Adds a handle on this end.
     pub fn hold(&mut self, end: PipeEnd)
         requires { handles_on self.old end < MOST_PIPE_HANDLES }
-        ensures { self.new ≡ with_handles self.old end (handles_on self.old end + 1) }
+        ensures value { self.new ≡ with_handles self.old end (handles_on self.old end + 1) }
+        ensures bounds { IsInBounds self.new }
     {
         match end {
             PipeEnd::Read => self.readers += 1,
@@ -89,7 +90,8 @@ impl Pipe {
     /// Takes a handle on this end away.
     pub fn leave(&mut self, end: PipeEnd)
         requires { 0 < handles_on self.old end }
-        ensures { self.new ≡ with_handles self.old end (handles_on self.old end - 1) }
+        ensures value { self.new ≡ with_handles self.old end (handles_on self.old end - 1) }
+        ensures bounds { IsInBounds self.new }
     {
         match end {
             PipeEnd::Read => self.readers -= 1,
@@ -99,7 +101,8 @@ impl Pipe {
 
     /// Whether a wait for its read end ends: it has a byte, or none can come.
     pub fn signalled(&self) -> bool
-        ensures { result ≡ pipe_is_signalled self.now }
+        ensures value { result ≡ pipe_is_signalled self.now }
+        ensures bounds { IsInBounds self.now }
     {
         self.len > 0 || self.writers == 0
     }
@@ -114,6 +117,7 @@ impl Pipe {
         ensures full { (result ≡ Err PutFault.Full) ↔ ((0 < self.old.readers) × (length self.old.bytes ≡ 64)) }
         ensures after { self.new ≡ put_after self.old b }
         ensures unchanged { OnErr result (self.new ≡ self.old) }
+        ensures bounds { IsInBounds self.new }
         ensures reply { reply_of_put result ≡ put_reply self.old }
     {
         if self.readers == 0 {
@@ -137,6 +141,7 @@ impl Pipe {
         ensures oldest { IfOk result (λ b. self.old.bytes ≡ b ∷ self.new.bytes) }
         ensures after { self.new ≡ get_after self.old }
         ensures unchanged { OnErr result (self.new ≡ self.old) }
+        ensures bounds { IsInBounds self.new }
         ensures reply { reply_of_get result ≡ get_reply self.old.bytes self.old.writers }
     {
         if self.len > 0 {
