@@ -15,7 +15,7 @@ use Rattle.layer_spec.specs.Moment.{Moment, Seen, SomeSeen, seen_at, entries_of,
 use Rattle.layer_spec.specs.Owners.{seen_in_call}
 use Rattle.layer_spec.specs.Turns.{was_ended}
 use Rattle.layer_spec.specs.Discipline.{is_create}
-use Rattle.layer_spec.specs.Deeds.{FindsNoSlot}
+use Rattle.layer_spec.specs.CallsDone.{FindsNoSlot}
 use Rattle.layer_spec.specs.Evidence.{ShowsEvent}
 
 -- an entry of a turn of thread 0 of slot 1 that loads word 1

@@ -11,7 +11,7 @@ use Rattle.layer_spec.specs.HeapReads.{base_in}
 use Rattle.layer_spec.specs.Moment.{SomeSeen, HistoryStep, seen_with}
 use Rattle.layer_spec.specs.Owners.{call_up_to}
 use Rattle.layer_spec.specs.Turns.{image_named}
-use Rattle.layer_spec.specs.Deeds.{MakesProcess, ClaimsRow, PlacesModule, WritesPlace, HasMade}
+use Rattle.layer_spec.specs.CallsDone.{MakesProcess, ClaimsRow, PlacesModule, WritesPlace, HasMade}
 
 -- the base of module m in the cygheap of p's image
 abbrev pub base_wanted : Win32State → ℕ → ℕ → ℕ

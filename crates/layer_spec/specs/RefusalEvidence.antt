@@ -16,7 +16,7 @@ use Rattle.posix_spec.specs.Conditions.{next_of}
 use Rattle.layer_spec.specs.Moment.{SomeSeen, HistoryStep, seen_with}
 use Rattle.layer_spec.specs.Owners.{call_up_to}
 use Rattle.layer_spec.specs.Turns.{has_ended, was_ended}
-use Rattle.layer_spec.specs.Deeds.{ClaimsRow, FindsNoSlot, PlacesModule, HasMade}
+use Rattle.layer_spec.specs.CallsDone.{ClaimsRow, FindsNoSlot, PlacesModule, HasMade}
 use Rattle.layer_spec.specs.ImageEvidence.{base_wanted, ArePlacedAlike}
 
 -- each row was claimed before

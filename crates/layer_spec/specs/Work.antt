@@ -15,16 +15,16 @@ is_run (Some (event.Run p n)) = true
 is_run _ = false
 
 -- whether it is one that is neither such a block nor a look at a child
-abbrev pub is_deed : Option Event → Bool
-is_deed None = false
-is_deed (Some (event.Run p n)) = false
-is_deed (Some (event.Look p c)) = false
-is_deed (Some _) = true
+abbrev pub is_other_event : Option Event → Bool
+is_other_event None = false
+is_other_event (Some (event.Run p n)) = false
+is_other_event (Some (event.Look p c)) = false
+is_other_event (Some _) = true
 
 -- How many turns of thread t of process w that weren't idle stand after its own last block of local instructions, and
 -- after the last event of any process that is neither a block nor a look.
 abbrev pub work_of : {A : Type 0} → (w t : ℕ) → List (Seen A) → ℕ
 work_of w t [] = 0
 work_of w t (x ∷ past) =
-    if is_deed x.entry.event || (is_run x.entry.event && is_turn_of x w t) then 0
+    if is_other_event x.entry.event || (is_run x.entry.event && is_turn_of x w t) then 0
     else (if is_turn_of x w t && is_some x.entry.call then 1 else 0) + work_of w t past
