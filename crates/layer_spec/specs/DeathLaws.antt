@@ -14,11 +14,10 @@ use Rattle.posix_spec.specs.State.{Life, Running, Stopped, Zombie, Record, Posix
 use Rattle.posix_spec.specs.Pending.{is_running, is_live, open_by_life, open_signals, ends}
 use Rattle.posix_spec.specs.Signals.{contains}
 use Rattle.posix_spec.specs.Waits.{death_to_report}
-use Rattle.posix_spec.specs.DeathSteps.{may_die, dead, died}
+use Rattle.posix_spec.specs.DeathSteps.{may_die, dead, died, with_status}
 use Rattle.std.specs.Option.{unwrap_or}
 use Rattle.posix_spec.specs.Numbers.{natural_of}
 use Rattle.posix_spec.specs.Records.{settled, change_record}
-use Rattle.posix_spec.specs.Sending.{owed_more}
 use Rattle.layer_spec.specs.Consequences.{death_status, reaped_status}
 use Rattle.posix_spec.specs.RecordLaws.{record_of-change_record, record_of-with_record}
 use Rattle.layer_spec.specs.FateLaws.{fate_in, fate_of, KeepsFates, same_fates, fates_then, owed_keeps}
@@ -117,9 +116,8 @@ pub fates_of_died : (s : PosixState) (p v : ℕ) (r : Record) (c : ℕ) → reco
     → fate_of (died s p v r.parent) c ≡ cond (nat_eq c p) (Some (Some v)) (fate_of s c)
 fates_of_died s p v r c is =
     let mid : PosixState = change_record s p (dead v) in
-    let owed : KeepsFates mid (change_record mid r.parent owed_more) = owed_keeps mid r.parent in
     let all : KeepsFates mid (died s p v r.parent) =
-        fates_then owed (status_keeps p v (change_record mid r.parent owed_more) (nat_eq p 2)) in
+        fates_then (status_keeps p v mid (nat_eq p 2)) (owed_keeps (with_status p v mid) r.parent) in
     all.fates c ∙ (ap (λ t. fate_of t c) (record_of-change_record s p (dead v) r is)
     ∙ (ap fate_in (record_of-with_record s p (dead v r) c)
     ∙ fate_cond (nat_eq c p) (Some (settled (dead v r))) (record_of s c)))
@@ -128,9 +126,8 @@ pub used_of_died : (s : PosixState) (p v : ℕ) (r : Record) → record_of s p �
     → (died s p v r.parent).used ≡ s.used
 used_of_died s p v r is =
     let mid : PosixState = change_record s p (dead v) in
-    let owed : KeepsFates mid (change_record mid r.parent owed_more) = owed_keeps mid r.parent in
     let all : KeepsFates mid (died s p v r.parent) =
-        fates_then owed (status_keeps p v (change_record mid r.parent owed_more) (nat_eq p 2)) in
+        fates_then (status_keeps p v mid (nat_eq p 2)) (owed_keeps (with_status p v mid) r.parent) in
     all.used ∙ ap (λ t. t.used) (record_of-change_record s p (dead v) r is)
 
 -- The standing of a number after an event that is about one process: `b` says whether the number is that process's.

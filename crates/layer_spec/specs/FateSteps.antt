@@ -1,5 +1,5 @@
 -- The events that leave the fate of every process as it is: all but fork, reap, die and collect.
-use Rattle.std.specs.Prelude.{◌≡◌, ℕ, ℤ, pos, Bool, true, false, cond, nat_eq, List, length, Option, Some, None}
+use Rattle.std.specs.Prelude.{◌≡◌, ℕ, ℤ, pos, Bool, true, false, cond, nat_eq, List, Option, Some, None}
 use Rattle.std.specs.FinMap as map
 use Rattle.std.proofs.Common.{refl, sym, ap, ◌∙◌}
 use Rattle.std.proofs.lemmas.Bool.{false≢true, and_parts}
@@ -28,7 +28,7 @@ use Rattle.posix_spec.specs.ConsoleSteps.{console_member_step, console_done_step
 use Rattle.posix_spec.specs.SignalCalls.{takes_away, acting, mask_step, with_mask, action_step, suspend_step, return_step, suspended, returned}
 use Rattle.posix_spec.specs.SignalActs.{deliver_by, stopped, stop_step, in_handler, is_interrupted}
 use Rattle.posix_spec.specs.GroupSteps.{in_group, setpgid_step, leading_session, setsid_step}
-use Rattle.posix_spec.specs.TerminalSteps.{with_foreground, with_flags, with_output, with_heap_bytes, tcset_step, flags_step, line_step, write_step, line_by, read_from}
+use Rattle.posix_spec.specs.TerminalSteps.{with_foreground, with_flags, with_output, with_read, tcset_step, flags_step, line_step, write_step, line_by, read_from}
 use Rattle.posix_spec.specs.Sending.{sent}
 use Rattle.posix_spec.specs.Step.{member_of, group_done_of}
 use Rattle.posix_spec.specs.GroupCalls.{killing_signal, member_call, kill_call, with_step}
@@ -198,9 +198,7 @@ line_keeps s p n bytes r (instr.Read address count) new e =
     value_keeps s (read_from s.terminal (count_of (value_of r.image count))) (line_by s p n bytes place) new
     (λ taken f. keeps_if s _ _ new f
     (let mid : PosixState = record s { terminal = taken.terminal } in
-    let heap : Record → Record = with_heap_bytes place taken.bytes in
-    answered_keeps s (change_record mid p heap) p (pos (length taken.bytes))
-    (fates_then (untouched s mid refl refl) (change_keeps mid p heap (λ r _. refl)))))
+    fates_then (untouched s mid refl refl) (change_keeps mid p (with_read place taken.bytes) (λ r _. refl))))
     (guarded _ _ new e).1
 line_keeps s p n bytes r _ new e = absurd (none-some new e)
 
