@@ -35,8 +35,8 @@ code_of script program_no = instructions_of (slice_get script.setup.programs pro
 abbrev pub BlockStep : List Instr → Win32State → ℕ → Reply → Win32State → Type 0
 BlockStep code s w r new =
     let image = image_of (memory_by s w) in
-    Gives (reply.Ran (block_length code image)) (with_own s w (with_image (memory_by s w) (block_image code image))) r
-    new
+    Gives (reply.Ran (block_length code image))
+    (with_own s w (with_image (memory_by s w) (block_image code image))) r new
 
 -- `run`: a block of local instructions of the caller's program on its image. The host has no program and runs none.
 abbrev pub RunStep : Script → Win32State → ℕ → Reply → Win32State → Type 0

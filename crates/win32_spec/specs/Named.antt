@@ -106,8 +106,8 @@ Gives answer after reply new = (reply ≡ answer) × (new ≡ after)
 
 -- Process w gets a handle, with its lowest free number, on what `names` is, in the state `before` in which all else
 -- is done. The reply tells the handle's number.
-pub record IsHandled (s before : Win32State) (w names : ℕ) (answer : ℕ → Reply) (r : Reply) (new : Win32State) : Type
-    0 where
+pub record IsHandled (s before : Win32State) (w names : ℕ) (answer : ℕ → Reply) (r : Reply)
+    (new : Win32State) : Type 0 where
   pub handle : ℕ
   pub lowest : IsLowestFree (handles_by s w) handle
   pub answered : r ≡ answer handle

@@ -84,5 +84,5 @@ abbrev pub GetStep : Win32State → ℕ → ℕ → Reply → Win32State → Typ
 GetStep s w h r new =
     MatchOption (read_end_by s w h) (Gives reply.BadHandle s r new) (λ bytes.
     let pipe = pipe_by s w h bytes in
-    Gives (get_reply pipe.bytes pipe.writers) (with_object s (object_number_by s w h) (Pipe (get_after pipe).bytes)) r
-    new)
+    Gives (get_reply pipe.bytes pipe.writers)
+    (with_object s (object_number_by s w h) (Pipe (get_after pipe).bytes)) r new)

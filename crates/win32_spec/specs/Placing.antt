@@ -26,8 +26,8 @@ pages_of (Some wanted) = wanted.size
 abbrev pub is_in_module : List Module → List PlacedModule → ℕ → Bool
 is_in_module modules [] page = false
 is_in_module modules (m ∷ ms) page =
-    (nat_le m.base page && nat_lt page (m.base + pages_of (slice_get modules m.module_no))) || is_in_module modules ms
-    page
+    (nat_le m.base page && nat_lt page (m.base + pages_of (slice_get modules m.module_no)))
+    || is_in_module modules ms page
 
 -- whether a page is taken in the process of this creation, in which these modules are placed
 abbrev pub is_taken : Script → ℕ → List PlacedModule → ℕ → Bool
@@ -59,8 +59,8 @@ abbrev pub and_placed : List PlacedModule → ℕ → ℕ → List PlacedModule
 and_placed placed m base = placed ++ record { module_no = m; base = base } ∷ []
 
 -- module m is placed in process w, at the wanted page or in the lowest free range
-pub record Places (script : Script) (s : Win32State) (w m : ℕ) (wanted : Module) (r : Reply) (new : Win32State) : Type
-    0 where
+pub record Places (script : Script) (s : Win32State) (w m : ℕ) (wanted : Module) (r : Reply)
+    (new : Win32State) : Type 0 where
   pub base : ℕ
   pub place : IsPlaceFor (taken_pages script (creation_of w) (placed_by s w)) wanted.base wanted.size base
   pub answered : r ≡ reply.Base base

@@ -27,8 +27,7 @@ with_made s o made = record s {
   next = s.next + 1;
 }
 
--- a process of the program stands in this slot, with the listed handles of the caller, and the caller has a handle on
--- it
+-- a process of the program stands in this slot, with the listed handles of the caller, which has a handle on it
 pub record IsMade (s : Win32State) (w slot program_no : ℕ) (program : Program) (list : List ℕ) (r : Reply)
     (new : Win32State) : Type 0 where
   pub number : ℕ

@@ -69,8 +69,8 @@ pub record AreObjectsNext (Exchanged : Type 0) (w t : ℕ) (xs ys : List Numbere
 
 -- Such a change of a state, by thread t of process w: only the bytes of processes that are `Written` change, and the
 -- words of a section only where `Exchanged` holds.
-pub record IsTame (script : Script) (Written : ℕ → Type 0) (Exchanged : Type 0) (w t : ℕ) (s new : Win32State) : Type
-    0 where
+pub record IsTame (script : Script) (Written : ℕ → Type 0) (Exchanged : Type 0) (w t : ℕ)
+    (s new : Win32State) : Type 0 where
   pub next : new.next ≡ s.next
   pub processes : AreProcessesNext script Written w s.processes new.processes
   pub objects : AreObjectsNext Exchanged w t s.objects new.objects

@@ -47,8 +47,8 @@ TakeStep s w h terminal group count place r new =
     (MatchBool (is_background terminal group) (Gives reply.Background s r new)
     (MatchOption (after_take terminal count) (Gives reply.NoLine s r new) (λ taken.
     Gives (reply.Line (length taken.bytes))
-    (with_own (with_terminal s w h taken.terminal) w (record own { heap = written own.heap place taken.bytes })) r
-    new)))
+    (with_own (with_terminal s w h taken.terminal) w (record own { heap = written own.heap place taken.bytes }))
+    r new)))
 
 -- `put G N PLACE FORCE`: N bytes of the heap are written, which changes nothing here. Refusals: badrange, background.
 abbrev pub WriteStep : Win32State → ℕ → Terminal → ℕ → ℕ → ℕ → Bool → Reply → Win32State → Type 0
