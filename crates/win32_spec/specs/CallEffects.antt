@@ -65,7 +65,7 @@ is_terminal _ terminal e = absurd (cc)
 pub unchanged : (script : Script) (s : Win32State) (w t : ℕ) (c : Call) (new : Win32State) → new ≡ s
     → CallEffect script s w t c new
 unchanged script s w t c new e =
-    subst (λ n. CallEffect script s w t c n) (sym e) (Changes (tame_same script (MayWrite s w c) (MayExchange c) w t s))
+    subst (λ n. CallEffect script s w t c n) (sym e) (Changes (tame_same script (MayWrite s w c) (MayExchange c) ⊥ w t s))
 
 -- a call that changes what an object holds
 pub object_changes : (script : Script) (s : Win32State) (w t : ℕ) (c : Call) (h : ℕ) (x y : Object) (new : Win32State)
@@ -74,7 +74,7 @@ pub object_changes : (script : Script) (s : Win32State) (w t : ℕ) (c : Call) (
     → CallEffect script s w t c new
 object_changes script s w t c h x y new e b n =
     subst (λ k. CallEffect script s w t c k) (sym n)
-    (Changes (tame_object script (MayWrite s w c) (MayExchange c) w t s (object_number_by s w h) x y
+    (Changes (tame_object script (MayWrite s w c) (MayExchange c) ⊥ w t s (object_number_by s w h) x y
     (object_by-found s w h x e) b))
 
 -- Words.

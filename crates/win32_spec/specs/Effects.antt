@@ -38,7 +38,7 @@ IsOnly s x = (b : ℕ) (y : Object) (k : ℕ) → object_of s.objects b ≡ Some
 -- object that is listed, on a new object, on both ends of a new pipe, or on a new process; or a handle is closed; or
 -- a process ends.
 pub data CallEffect (script : Script) (s : Win32State) (w t : ℕ) (c : Call) (new : Win32State) : Type 0 where
-  Changes : IsTame script (MayWrite s w c) (MayExchange c) w t s new → CallEffect script s w t c new
+  Changes : IsTame script (MayWrite s w c) (MayExchange c) ⊥ w t s new → CallEffect script s w t c new
   Opens : (names : ℕ) → IsListed s.objects names → is_full (handles_by s w) 1 ≡ false → (answer : ℕ → Reply) (r : Reply)
       → IsHandled s s w names answer r new → CallEffect script s w t c new
   Adds : (x : Object) → IsObject s.processes x → IsOnly s x → is_full (handles_by s w) 1 ≡ false → (r : Reply)

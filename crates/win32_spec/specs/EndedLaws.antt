@@ -76,7 +76,7 @@ module _ (script : Script) (s : Win32State) (w t : ℕ) (c : Call) (new : Win32S
       → CallEffect script s w t c new
       → StaysEnded new v p
   ended-effect p e dead (Changes tame) =
-      let r = both_forth (ProcessBecomes script (MayWrite s w c v) (v ≡ w)) (process_of s.processes v)
+      let r = both_forth (ProcessBecomes script (MayWrite s w c v) (v ≡ w) ⊥) (process_of s.processes v)
       (process_of new.processes v) p (tame.processes.process v) e in
       inl (r.1 ∙ ap Some (r.2.ended dead))
   ended-effect p e dead (Opens names listed room answer r handled) =
@@ -119,7 +119,7 @@ module _ (script : Script) (s : Win32State) (w t : ℕ) (c : Call) (new : Win32S
       by_answer : (o : Option Process) → process_of new.processes v ≡ o → o ≡ None
       by_answer None f = refl
       by_answer (Some q) f =
-          let r = both_back (ProcessBecomes script (MayWrite s w c v) (v ≡ w)) (process_of s.processes v)
+          let r = both_back (ProcessBecomes script (MayWrite s w c v) (v ≡ w) ⊥) (process_of s.processes v)
           (process_of new.processes v) q
           (tame.processes.process v) f in absurd (not_none (process_of s.processes v) r.0 r.1 e)
   none-effect e below (Opens names listed room answer r handled) =

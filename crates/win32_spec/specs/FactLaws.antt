@@ -27,9 +27,10 @@ use Rattle.win32_spec.specs.Facts.{IsTurnOf, IsWrittenTo, IsExchange, ObjectAfte
 
 -- less may change
 becomes_weaken : (script : Script) (A C D F : Type 0) (p q : Process) → (A → C) → (D → F)
-    → ProcessBecomes script A D p q → ProcessBecomes script C F p q
+    → ProcessBecomes script A D ⊥ p q → ProcessBecomes script C F ⊥ p q
 becomes_weaken script A C D F p q f g h =
-    becomes_trans script A ⊥ C D ⊥ F p q q f (λ n. absurd n) g (λ n. absurd n) h (process_same script ⊥ ⊥ q)
+    becomes_trans script A ⊥ C D ⊥ F ⊥ ⊥ ⊥ p q q f (λ n. absurd n) g (λ n. absurd n) (λ n. n) (λ n. n) h
+    (process_same script ⊥ ⊥ ⊥ q)
 
 -- a thread that goes on after its call leaves the other processes and all objects
 pub acts_beside : (s : Win32State) (w t : ℕ) (new : Win32State) (v : ℕ) → v ≢ w → Acts s w t new
@@ -84,7 +85,7 @@ module _ (script : Script) (s : Win32State) (slot t : ℕ) (called : Option Call
 
     pub turn_other : (v : ℕ) (p q : Process) → process_of s.processes v ≡ Some p → process_of new.processes v ≡ Some q
         → is_alive q.life ≡ true
-        → (number_in s slot ≡ Some v → ⊥) → ProcessBecomes script (IsWrittenTo s (directive.Turn slot t) called v) ⊥ p q
+        → (number_in s slot ≡ Some v → ⊥) → ProcessBecomes script (IsWrittenTo s (directive.Turn slot t) called v) ⊥ ⊥ p q
     turn_other v p q e f alive apart =
         let d : v ≢ turn.process.number = λ n. apart (turn_number ∙ ap Some (sym n)) in
         becomes_weaken script (MayWrite s turn.process.number turn.thread.posted v)
@@ -119,7 +120,7 @@ pub other-step : (script : Script) (s : Win32State) (d : Directive) (called : Op
     → HaveRegisters script → IsWellFormed script s → StepBy script s d called came new → (v : ℕ) (p q : Process)
     → process_of s.processes v ≡ Some p → process_of new.processes v ≡ Some q → is_alive q.life ≡ true
     → (IsTurnOf s d v → ⊥)
-    → ProcessBecomes script (IsWrittenTo s d called v) ⊥ p q
+    → ProcessBecomes script (IsWrittenTo s d called v) ⊥ ⊥ p q
 other-step script s (directive.Turn slot t) called came new registers h step v p q e f alive apart =
     by_bool (is_ready s slot t)
     (λ r turn. turn_other script s slot t called came new registers h turn v p q e f alive apart)
@@ -127,18 +128,18 @@ other-step script s (directive.Turn slot t) called came new registers h step v p
     (same_some (process_of s.processes v) q p (ap (λ (n : Win32State). process_of n.processes v) (sym idle.2) ∙ f) e))
     step
   where
-    same_process : (script : Script) (A : Type 0) (p q : Process) → q ≡ p → ProcessBecomes script A ⊥ p q
-    same_process script A p q n = subst (λ x. ProcessBecomes script A ⊥ p x) (sym n) (process_same script A ⊥ p)
+    same_process : (script : Script) (A : Type 0) (p q : Process) → q ≡ p → ProcessBecomes script A ⊥ ⊥ p q
+    same_process script A p q n = subst (λ x. ProcessBecomes script A ⊥ ⊥ p x) (sym n) (process_same script A ⊥ ⊥ p)
 other-step script s (directive.End slot) called came new registers h step v p q e f alive apart =
     by_answer (process_in s.processes slot) refl step.1
   where
     by_answer : (o : Option Process) → process_in s.processes slot ≡ o → EndStep s o came new
-        → ProcessBecomes script (IsWrittenTo s (directive.End slot) called v) ⊥ p q
+        → ProcessBecomes script (IsWrittenTo s (directive.End slot) called v) ⊥ ⊥ p q
     by_answer None i m =
-        subst (λ x. ProcessBecomes script (IsWrittenTo s (directive.End slot) called v) ⊥ p x)
+        subst (λ x. ProcessBecomes script (IsWrittenTo s (directive.End slot) called v) ⊥ ⊥ p x)
         (sym (same_some (process_of s.processes v) q p
         (ap (λ (n : Win32State). process_of n.processes v) (sym m.1) ∙ f) e))
-        (process_same script (IsWrittenTo s (directive.End slot) called v) ⊥ p)
+        (process_same script (IsWrittenTo s (directive.End slot) called v) ⊥ ⊥ p)
     by_answer (Some r) i m =
         let found = process_in-found 1 s.next s.processes slot r h.formed.processes i in
         becomes_weaken script (MayWrite s (suc v) call.Run v) (IsWrittenTo s (directive.End slot) called v)
@@ -148,7 +149,7 @@ other-step script s (directive.End slot) called came new registers h step v p q 
         (Ends r.number ended_from_outside (found_live (process_of s.processes r.number) r found.0 found.1) m.1) v p q
         (λ n. omega arith) e f alive)
 other-step script s (directive.Key b) called came new registers h step v p q e f alive apart =
-    subst (λ x. ProcessBecomes script (IsWrittenTo s (directive.Key b) called v) ⊥ p x)
+    subst (λ x. ProcessBecomes script (IsWrittenTo s (directive.Key b) called v) ⊥ ⊥ p x)
     (sym (same_some (process_of s.processes v) q p
     (ap (λ (n : Win32State). process_of n.processes v) (sym step.2) ∙ f) e))
-    (process_same script (IsWrittenTo s (directive.Key b) called v) ⊥ p)
+    (process_same script (IsWrittenTo s (directive.Key b) called v) ⊥ ⊥ p)

@@ -275,7 +275,7 @@ pub wellformed-effect : (script : Script) (s : Win32State) (w t : ℕ) (c : Call
     → IsWellFormed script s
     → is_live (process_of s.processes w) ≡ true → t ≤ 2 → CallEffect script s w t c new → IsWellFormed script new
 wellformed-effect script s w t c new h live few (Changes tame) =
-    wellformed-tame script (MayWrite s w c) (MayExchange c) w t s new h tame live few
+    wellformed-tame script (MayWrite s w c) (MayExchange c) ⊥ w t s new h tame live few
 wellformed-effect script s w t c new h live few (Opens names listed room answer r handled) =
     let p = live_found (process_of s.processes w) live in
     subst (IsWellFormed script) (sym handled.after)

@@ -70,8 +70,8 @@ pub own_effect : (script : Script) (s : Win32State) (w t : ℕ) (c : Call) (v : 
     → new ≡ with_own s v own → CallEffect script s w t c new
 own_effect script s w t c v own new written keeps e =
     subst (λ n. CallEffect script s w t c n) (sym e)
-    (Changes (tame_process script (MayWrite s w c) (MayExchange c) w t s v (λ q. record q { own = own }) (λ q. refl)
-    (λ q f. let k = keeps q f in memory_becomes script (MayWrite s w c v) (v ≡ w) q own k.0 written k.1)))
+    (Changes (tame_process script (MayWrite s w c) (MayExchange c) ⊥ w t s v (λ q. record q { own = own }) (λ q. refl)
+    (λ q f. let k = keeps q f in memory_becomes script (MayWrite s w c v) (v ≡ w) ⊥ q own k.0 written k.1)))
 
 -- the caller's memory is that of the caller
 pub memory_by-found : (s : Win32State) (w : ℕ) (p : Process) → process_of s.processes w ≡ Some p → memory_by s w ≡ p.own

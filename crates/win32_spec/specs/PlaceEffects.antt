@@ -83,11 +83,11 @@ modules-behind modules (x ∷ xs) m base free new h =
     ]
 
 -- a process in which modules alone are placed
-placed_becomes : (script : Script) (Written Acting : Type 0) (p : Process) (k : ℕ) (placed : List PlacedModule)
+placed_becomes : (script : Script) (Written Acting Posting : Type 0) (p : Process) (k : ℕ) (placed : List PlacedModule)
     → is_alive p.life ≡ true → p.program ≡ Some k → Acting
     → (AreModules script.setup.modules p.placed → AreModules script.setup.modules placed)
-    → ProcessBecomes script Written Acting p (record p { placed = placed })
-placed_becomes script Written Acting p k placed alive program acting keeps = record {
+    → ProcessBecomes script Written Acting Posting p (record p { placed = placed })
+placed_becomes script Written Acting Posting p k placed alive program acting keeps = record {
   ended = λ e. absurd (cc);
   number = refl;
   slot = refl;
@@ -112,9 +112,9 @@ module_effect script s w t m r new live step =
     (λ wanted listed x.
     by_option (base_in (placed_by s w) m) (λ free places.
     subst (λ n. CallEffect script s w t (call.Module m) n) (sym places.after)
-    (Changes (tame_process script (MayWrite s w (call.Module m)) (MayExchange (call.Module m)) w t s w
+    (Changes (tame_process script (MayWrite s w (call.Module m)) (MayExchange (call.Module m)) ⊥ w t s w
     (λ p. record p { placed = and_placed p.placed m places.base }) (λ p. refl)
-    (λ p f. placed_becomes script (MayWrite s w (call.Module m) w) (w ≡ w) p k (and_placed p.placed m places.base)
+    (λ p f. placed_becomes script (MayWrite s w (call.Module m) w) (w ≡ w) ⊥ p k (and_placed p.placed m places.base)
     (rw f at live)
     (sym (ap program_no_of f) ∙ program) refl
     (modules-behind script.setup.modules p.placed m places.base (subst (λ o. base_in (placed_of o) m ≡ None) f free)

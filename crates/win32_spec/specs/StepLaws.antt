@@ -66,21 +66,21 @@ acting script s slot t p x h thread =
 -- Other bytes of the acting thread's process, and its next posted call.
 pub own_tame : (script : Script) (s : Win32State) (w t : ℕ) (own : Own) → is_live (process_of s.processes w) ≡ true
     → KeepsLengths (memory_by s w) own
-    → IsTame script (λ v. v ≡ w) ⊥ w t s (with_own s w own)
+    → IsTame script (λ v. v ≡ w) ⊥ (Unit {0}) w t s (with_own s w own)
 own_tame script s w t own live lengths =
-    tame_process script (λ v. v ≡ w) ⊥ w t s w (λ q. record q { own = own }) (λ q. refl)
-    (λ q f. memory_becomes script (w ≡ w) (w ≡ w) q own (rw f at live) refl
+    tame_process script (λ v. v ≡ w) ⊥ (Unit {0}) w t s w (λ q. record q { own = own }) (λ q. refl)
+    (λ q f. memory_becomes script (w ≡ w) (w ≡ w) (Unit {0}) q own (rw f at live) refl
     (subst (λ o. KeepsLengths o own) (memory_by-found s w q f) lengths))
 
 pub posted_tame : (script : Script) (s : Win32State) (w t : ℕ) (next : Call) → is_live (process_of s.processes w) ≡ true
-    → IsTame script (λ v. v ≡ w) ⊥ w t s (with_posted s w t next)
+    → IsTame script (λ v. v ≡ w) ⊥ (Unit {0}) w t s (with_posted s w t next)
 posted_tame script s w t next live =
-    tame_process script (λ v. v ≡ w) ⊥ w t s w
+    tame_process script (λ v. v ≡ w) ⊥ (Unit {0}) w t s w
     (λ q. record q { threads = change_thread t (λ x. record x { posted = next }) q.threads }) (λ q. refl)
-    (λ q f. threads_become script (w ≡ w) (w ≡ w) q (change_thread t (λ x. record x { posted = next }) q.threads)
+    (λ q f. threads_become script (w ≡ w) (w ≡ w) (Unit {0}) q (change_thread t (λ x. record x { posted = next }) q.threads)
     (rw f at live)
     (λ ts h. threads-change t (λ x. record x { posted = next }) (λ x. refl) (λ x l. l) ts q.threads h)
-    (λ n. absurd (n refl)))
+    (λ n. absurd (n (refl, tt))))
 
 pub live-with_own : (s : Win32State) (w : ℕ) (own : Own) → is_live (process_of s.processes w) ≡ true
     → is_live (process_of (with_own s w own).processes w) ≡ true
@@ -92,11 +92,11 @@ live-with_own s w own live =
 pub wellformed-acts : (script : Script) (s : Win32State) (w t : ℕ) (new : Win32State) → IsWellFormed script s
     → is_live (process_of s.processes w) ≡ true → t ≤ 2 → Acts s w t new → IsWellFormed script new
 wellformed-acts script s w t new h live few acts =
-    let one = wellformed-tame script (λ v. v ≡ w) ⊥ w t s (with_own s w acts.own) h
+    let one = wellformed-tame script (λ v. v ≡ w) ⊥ (Unit {0}) w t s (with_own s w acts.own) h
     (own_tame script s w t acts.own live acts.lengths) live few in
     let again = live-with_own s w acts.own live in
     subst (IsWellFormed script) (sym acts.after)
-    (wellformed-tame script (λ v. v ≡ w) ⊥ w t (with_own s w acts.own)
+    (wellformed-tame script (λ v. v ≡ w) ⊥ (Unit {0}) w t (with_own s w acts.own)
     (with_posted (with_own s w acts.own) w t acts.next) one
     (posted_tame script (with_own s w acts.own) w t acts.next again) again few)
 

@@ -24,9 +24,9 @@ posted_by (Some x) = Some x.posted
 abbrev pub PostTheSame : List Thread → List Thread → Type 0
 PostTheSame xs ys = (t : ℕ) → posted_by (thread_in ys t) ≡ posted_by (thread_in xs t)
 
--- A process after such a change. Its bytes are as before unless `Written` holds, and its modules and its posted calls
--- unless `Acting` does.
-pub record ProcessBecomes (script : Script) (Written Acting : Type 0) (p q : Process) : Type 0 where
+-- A process after such a change. Its bytes are as before unless `Written` holds, its modules unless `Acting` does, and its
+-- posted calls unless `Posting` does too.
+pub record ProcessBecomes (script : Script) (Written Acting Posting : Type 0) (p q : Process) : Type 0 where
   pub ended : is_alive p.life ≡ false → q ≡ p
   pub number : q.number ≡ p.number
   pub slot : q.slot ≡ p.slot
@@ -37,7 +37,7 @@ pub record ProcessBecomes (script : Script) (Written Acting : Type 0) (p q : Pro
   pub lengths : KeepsLengths p.own q.own
   pub bytes : (Written → ⊥) → q.own ≡ p.own
   pub modules : (Acting → ⊥) → q.placed ≡ p.placed
-  pub posted : (Acting → ⊥) → PostTheSame p.threads q.threads
+  pub posted : (Acting × Posting → ⊥) → PostTheSame p.threads q.threads
   pub unplaced : p.program ≡ None → q.placed ≡ p.placed
   pub placed : AreModules script.setup.modules p.placed → AreModules script.setup.modules q.placed
 
@@ -59,9 +59,10 @@ pub record ObjectBecomes (Exchanged : Type 0) (w t : ℕ) (x y : Object) : Type 
   pub ends : has_ends y ≡ has_ends x
   pub holds : HoldsNext Exchanged w t x y
 
-pub record AreProcessesNext (script : Script) (Written : ℕ → Type 0) (w : ℕ) (ps qs : List Process) : Type 0 where
+pub record AreProcessesNext (script : Script) (Written : ℕ → Type 0) (Posting : Type 0) (w : ℕ)
+    (ps qs : List Process) : Type 0 where
   pub rising : (low next : ℕ) → AreRisingProcesses low next ps → AreRisingProcesses low next qs
-  pub process : (v : ℕ) → Both (ProcessBecomes script (Written v) (v ≡ w)) (process_of ps v) (process_of qs v)
+  pub process : (v : ℕ) → Both (ProcessBecomes script (Written v) (v ≡ w) Posting) (process_of ps v) (process_of qs v)
 
 pub record AreObjectsNext (Exchanged : Type 0) (w t : ℕ) (xs ys : List NumberedObject) : Type 0 where
   pub rising : (low : ℕ) → AreRisingObjects low xs → AreRisingObjects low ys
@@ -69,8 +70,8 @@ pub record AreObjectsNext (Exchanged : Type 0) (w t : ℕ) (xs ys : List Numbere
 
 -- Such a change of a state, by thread t of process w: only the bytes of processes that are `Written` change, and the
 -- words of a section only where `Exchanged` holds.
-pub record IsTame (script : Script) (Written : ℕ → Type 0) (Exchanged : Type 0) (w t : ℕ)
+pub record IsTame (script : Script) (Written : ℕ → Type 0) (Exchanged Posting : Type 0) (w t : ℕ)
     (s new : Win32State) : Type 0 where
   pub next : new.next ≡ s.next
-  pub processes : AreProcessesNext script Written w s.processes new.processes
+  pub processes : AreProcessesNext script Written Posting w s.processes new.processes
   pub objects : AreObjectsNext Exchanged w t s.objects new.objects

@@ -43,10 +43,10 @@ sizes_stay p q a b c d e k h = record {
   scratch_size = k.scratch ∙ h.scratch_size;
 }
 
-kind_stays : (script : Script) (Written Acting : Type 0) (p q : Process) → ProcessBecomes script Written Acting p q
+kind_stays : (script : Script) (Written Acting Posting : Type 0) (p q : Process) → ProcessBecomes script Written Acting Posting p q
     → MatchOption p.program (IsHost p) (IsLayerProcess script p)
     → MatchOption q.program (IsHost q) (IsLayerProcess script q)
-kind_stays script Written Acting p q b k =
+kind_stays script Written Acting Posting p q b k =
     subst (λ o. MatchOption o (IsHost q) (IsLayerProcess script q)) (sym b.program) (by_program p.program refl k)
   where
     by_program : (o : Option ℕ) → p.program ≡ o → MatchOption o (IsHost p) (IsLayerProcess script p)
@@ -92,17 +92,17 @@ process_object-stays : (Exchanged : Type 0) (w t : ℕ) (v : ℕ) (y : Object)
 process_object-stays Exchanged w t v (ProcessObject new) h = ap ProcessObject h
 process_object-stays Exchanged w t v _ h = absurd h
 
-module _ (script : Script) (Written : ℕ → Type 0) (Exchanged : Type 0) (w t : ℕ) (s new : Win32State)
+module _ (script : Script) (Written : ℕ → Type 0) (Exchanged Posting : Type 0) (w t : ℕ) (s new : Win32State)
     (h : IsFormed script s)
-    (tame : IsTame script Written Exchanged w t s new) where
+    (tame : IsTame script Written Exchanged Posting w t s new) where
   back : (v : ℕ) (q : Process) → process_of new.processes v ≡ Some q
-      → (p : Process) × (process_of s.processes v ≡ Some p) × ProcessBecomes script (Written v) (v ≡ w) p q
-  back v q e = both_back (ProcessBecomes script (Written v) (v ≡ w)) (process_of s.processes v)
+      → (p : Process) × (process_of s.processes v ≡ Some p) × ProcessBecomes script (Written v) (v ≡ w) Posting p q
+  back v q e = both_back (ProcessBecomes script (Written v) (v ≡ w) Posting) (process_of s.processes v)
       (process_of new.processes v) q (tame.processes.process v) e
 
   forth : (v : ℕ) (p : Process) → process_of s.processes v ≡ Some p
-      → (q : Process) × (process_of new.processes v ≡ Some q) × ProcessBecomes script (Written v) (v ≡ w) p q
-  forth v p e = both_forth (ProcessBecomes script (Written v) (v ≡ w)) (process_of s.processes v)
+      → (q : Process) × (process_of new.processes v ≡ Some q) × ProcessBecomes script (Written v) (v ≡ w) Posting p q
+  forth v p e = both_forth (ProcessBecomes script (Written v) (v ≡ w) Posting) (process_of s.processes v)
       (process_of new.processes v) p (tame.processes.process v) e
 
   object_back : (o : ℕ) (y : Object) → object_of new.objects o ≡ Some y
@@ -121,7 +121,7 @@ module _ (script : Script) (Written : ℕ → Type 0) (Exchanged : Type 0) (w t 
       let y = object_forth (object_number names) at.0 at.1 in
       to_listed new.objects names y.0 y.1 (λ e. at.2 (sym y.2.ends ∙ e))
 
-  tame_process : (q p : Process) (v : ℕ) → ProcessBecomes script (Written v) (v ≡ w) p q
+  tame_process : (q p : Process) (v : ℕ) → ProcessBecomes script (Written v) (v ≡ w) Posting p q
       → IsProcessBy script s.objects p p.life
       → IsProcessBy script new.objects q q.life
   tame_process q p v b k = subst (λ l. IsProcessBy script new.objects q l) (sym b.life) (by_life p.life refl k)
@@ -129,7 +129,7 @@ module _ (script : Script) (Written : ℕ → Type 0) (Exchanged : Type 0) (w t 
       by_life : (life : Life) → p.life ≡ life → IsProcessBy script s.objects p life
           → IsProcessBy script new.objects q life
       by_life Alive l f = record {
-        kind = kind_stays script (Written v) (v ≡ w) p q b f.kind;
+        kind = kind_stays script (Written v) (v ≡ w) Posting p q b f.kind;
         threads = rw b.slot (b.threads (threads_of p.slot) f.threads);
         rising = rw b.handles f.rising;
         naming = λ i names e. tame_listed names (f.naming i names (rw b.handles at e));
@@ -155,14 +155,14 @@ module _ (script : Script) (Written : ℕ → Type 0) (Exchanged : Type 0) (w t 
         h.only a b x.0 u.0 k x.1 u.1 (sym x.2.only ∙ m) (sym u.2.only ∙ n);
   }
 
-module _ (script : Script) (Written : ℕ → Type 0) (Exchanged : Type 0) (w t : ℕ) (s new : Win32State)
+module _ (script : Script) (Written : ℕ → Type 0) (Exchanged Posting : Type 0) (w t : ℕ) (s new : Win32State)
     (h : IsWellFormed script s)
-    (tame : IsTame script Written Exchanged w t s new) where
+    (tame : IsTame script Written Exchanged Posting w t s new) where
   -- what is held stays held
   pub held-tame : (o : ℕ) → is_object_held s.processes o ≡ true → is_object_held new.processes o ≡ true
   held-tame o e =
       let at = held-by 1 s.next s.processes o h.formed.processes (have_rising script s h.formed) e in
-      let q = forth script Written Exchanged w t s new h.formed tame at.number at.process at.found in
+      let q = forth script Written Exchanged Posting w t s new h.formed tame at.number at.process at.found in
       is-held new.processes o (record {
         number = at.number;
         process = q.0;
@@ -176,14 +176,14 @@ module _ (script : Script) (Written : ℕ → Type 0) (Exchanged : Type 0) (w t 
 
   pub wellformed-tame : is_live (process_of s.processes w) ≡ true → t ≤ 2 → IsWellFormed script new
   wellformed-tame live few = record {
-    formed = formed-tame script Written Exchanged w t s new h.formed tame live few;
+    formed = formed-tame script Written Exchanged Posting w t s new h.formed tame live few;
     object_held = λ o y e.
-        let x = object_back script Written Exchanged w t s new h.formed tame o y e in
+        let x = object_back script Written Exchanged Posting w t s new h.formed tame o y e in
         held-tame o (h.object_held o x.0 x.1);
     process_held = λ v q e dead.
-        let p = back script Written Exchanged w t s new h.formed tame v q e in
+        let p = back script Written Exchanged Posting w t s new h.formed tame v q e in
         let at = process_held-by 0 s.objects v h.formed.objects
         (h.process_held v p.0 p.1 (sym (ap is_alive p.2.life) ∙ dead)) in
-        let y = object_forth script Written Exchanged w t s new h.formed tame at.0 (ProcessObject v) at.1 in
+        let y = object_forth script Written Exchanged Posting w t s new h.formed tame at.0 (ProcessObject v) at.1 in
         is-process_held new.objects v at.0 (y.1 ∙ ap Some (process_object-stays Exchanged w t v y.0 y.2.holds));
   }

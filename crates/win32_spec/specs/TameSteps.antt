@@ -15,8 +15,8 @@ pub lengths-same : (own : Own) → KeepsLengths own own
 lengths-same own = record { dat = refl; heap = refl; stack = refl; cyg = refl; scratch = refl }
 
 -- a process that stays as it is
-pub process_same : (script : Script) (Written Acting : Type 0) (p : Process) → ProcessBecomes script Written Acting p p
-process_same script Written Acting p = record {
+pub process_same : (script : Script) (Written Acting Posting : Type 0) (p : Process) → ProcessBecomes script Written Acting Posting p p
+process_same script Written Acting Posting p = record {
   ended = λ e. refl;
   number = refl;
   slot = refl;
@@ -32,12 +32,12 @@ process_same script Written Acting p = record {
   placed = λ h. h;
 }
 
-pub processes_same : (script : Script) (Written : ℕ → Type 0) (w : ℕ) (ps : List Process)
-    → AreProcessesNext script Written w ps ps
-processes_same script Written w ps = record {
+pub processes_same : (script : Script) (Written : ℕ → Type 0) (Posting : Type 0) (w : ℕ) (ps : List Process)
+    → AreProcessesNext script Written Posting w ps ps
+processes_same script Written Posting w ps = record {
   rising = λ low next r. r;
-  process = λ v. both_same (ProcessBecomes script (Written v) (v ≡ w)) (process_of ps v) (process_of ps v)
-      (process_same script (Written v) (v ≡ w)) refl;
+  process = λ v. both_same (ProcessBecomes script (Written v) (v ≡ w) Posting) (process_of ps v) (process_of ps v)
+      (process_same script (Written v) (v ≡ w) Posting) refl;
 }
 
 both_some : {X : Type 0} (R : X → X → Type 0) (o n : Option X) (x y : X) → o ≡ Some x → n ≡ Some y → R x y → Both R o n
@@ -47,31 +47,31 @@ both_none : {X : Type 0} (R : X → X → Type 0) (o n : Option X) → o ≡ Non
 both_none {X = X} R o n e f = subst (λ k. Both R k n) (sym e) (subst (λ k. Both R None k) (sym f) tt)
 
 -- one process changes
-pub processes_change : (script : Script) (Written : ℕ → Type 0) (w : ℕ) (ps : List Process) (v : ℕ)
+pub processes_change : (script : Script) (Written : ℕ → Type 0) (Posting : Type 0) (w : ℕ) (ps : List Process) (v : ℕ)
     (f : Process → Process)
     → ((p : Process) → (f p).number ≡ p.number)
-    → ((p : Process) → process_of ps v ≡ Some p → ProcessBecomes script (Written v) (v ≡ w) p (f p))
-    → AreProcessesNext script Written w ps (change_process v f ps)
-processes_change script Written w ps v f keeps becomes = record {
+    → ((p : Process) → process_of ps v ≡ Some p → ProcessBecomes script (Written v) (v ≡ w) Posting p (f p))
+    → AreProcessesNext script Written Posting w ps (change_process v f ps)
+processes_change script Written Posting w ps v f keeps becomes = record {
   rising = λ low next r. rising-change_process v f keeps low next ps r;
   process = λ u. elim (cases_eq u v) [
     | inl n ↦
-        subst (λ k. Both (ProcessBecomes script (Written k) (k ≡ w)) (process_of ps k)
+        subst (λ k. Both (ProcessBecomes script (Written k) (k ≡ w) Posting) (process_of ps k)
         (process_of (change_process v f ps) k)) (sym n)
         (here (process_of ps v) refl)
     | inr d ↦
-        both_same (ProcessBecomes script (Written u) (u ≡ w)) (process_of ps u) (process_of (change_process v f ps) u)
-        (process_same script (Written u) (u ≡ w)) (process_of-change_other v f keeps ps u d)
+        both_same (ProcessBecomes script (Written u) (u ≡ w) Posting) (process_of ps u) (process_of (change_process v f ps) u)
+        (process_same script (Written u) (u ≡ w) Posting) (process_of-change_other v f keeps ps u d)
   ];
 }
   where
     here : (o : Option Process) → process_of ps v ≡ o
-        → Both (ProcessBecomes script (Written v) (v ≡ w)) (process_of ps v) (process_of (change_process v f ps) v)
+        → Both (ProcessBecomes script (Written v) (v ≡ w) Posting) (process_of ps v) (process_of (change_process v f ps) v)
     here None e =
-        both_none (ProcessBecomes script (Written v) (v ≡ w)) (process_of ps v) (process_of (change_process v f ps) v) e
+        both_none (ProcessBecomes script (Written v) (v ≡ w) Posting) (process_of ps v) (process_of (change_process v f ps) v) e
         (process_of-change_none v f ps e)
     here (Some p) e =
-        both_some (ProcessBecomes script (Written v) (v ≡ w)) (process_of ps v) (process_of (change_process v f ps) v)
+        both_some (ProcessBecomes script (Written v) (v ≡ w) Posting) (process_of ps v) (process_of (change_process v f ps) v)
         p (f p) e
         (process_of-change_same v f keeps ps p e) (becomes p e)
 
@@ -112,31 +112,31 @@ objects_change Exchanged w t xs o x y e b = record {
 }
 
 -- Nothing changes, one process, or one object.
-pub tame_same : (script : Script) (Written : ℕ → Type 0) (Exchanged : Type 0) (w t : ℕ) (s : Win32State)
-    → IsTame script Written Exchanged w t s s
-tame_same script Written Exchanged w t s = record {
+pub tame_same : (script : Script) (Written : ℕ → Type 0) (Exchanged Posting : Type 0) (w t : ℕ) (s : Win32State)
+    → IsTame script Written Exchanged Posting w t s s
+tame_same script Written Exchanged Posting w t s = record {
   next = refl;
-  processes = processes_same script Written w s.processes;
+  processes = processes_same script Written Posting w s.processes;
   objects = objects_same Exchanged w t s.objects;
 }
 
-pub tame_process : (script : Script) (Written : ℕ → Type 0) (Exchanged : Type 0) (w t : ℕ) (s : Win32State) (v : ℕ)
+pub tame_process : (script : Script) (Written : ℕ → Type 0) (Exchanged Posting : Type 0) (w t : ℕ) (s : Win32State) (v : ℕ)
     (f : Process → Process)
     → ((p : Process) → (f p).number ≡ p.number)
-    → ((p : Process) → process_of s.processes v ≡ Some p → ProcessBecomes script (Written v) (v ≡ w) p (f p))
-    → IsTame script Written Exchanged w t s (with_process s v f)
-tame_process script Written Exchanged w t s v f keeps becomes = record {
+    → ((p : Process) → process_of s.processes v ≡ Some p → ProcessBecomes script (Written v) (v ≡ w) Posting p (f p))
+    → IsTame script Written Exchanged Posting w t s (with_process s v f)
+tame_process script Written Exchanged Posting w t s v f keeps becomes = record {
   next = refl;
-  processes = processes_change script Written w s.processes v f keeps becomes;
+  processes = processes_change script Written Posting w s.processes v f keeps becomes;
   objects = objects_same Exchanged w t s.objects;
 }
 
-pub tame_object : (script : Script) (Written : ℕ → Type 0) (Exchanged : Type 0) (w t : ℕ) (s : Win32State) (o : ℕ)
+pub tame_object : (script : Script) (Written : ℕ → Type 0) (Exchanged Posting : Type 0) (w t : ℕ) (s : Win32State) (o : ℕ)
     (x y : Object)
     → object_of s.objects o ≡ Some x → ObjectBecomes Exchanged w t x y
-    → IsTame script Written Exchanged w t s (with_object s o y)
-tame_object script Written Exchanged w t s o x y e b = record {
+    → IsTame script Written Exchanged Posting w t s (with_object s o y)
+tame_object script Written Exchanged Posting w t s o x y e b = record {
   next = refl;
-  processes = processes_same script Written w s.processes;
+  processes = processes_same script Written Posting w s.processes;
   objects = objects_change Exchanged w t s.objects o x y e b;
 }

@@ -46,7 +46,7 @@ key_effect script s w t c h terminal (b ∷ keys) r new found step =
     subst (λ n. CallEffect script s w t c n) (sym step.1)
     (Changes (record {
       next = refl;
-      processes = processes_same script (MayWrite s w c) w s.processes;
+      processes = processes_same script (MayWrite s w c) ⊥ w s.processes;
       objects = objects_change (MayExchange c) w t s.objects (object_number_by s w h) (TerminalObject terminal)
           (TerminalObject (after_key terminal b).terminal) (object_by-found s w h (TerminalObject terminal) found)
           (terminal_becomes (MayExchange c) w t terminal (after_key terminal b).terminal);
@@ -96,8 +96,8 @@ take_effect script s w t c h terminal group count place r new live found step =
     subst (λ n. CallEffect script s w t c n) (sym m.1)
     (Changes (record {
       next = refl;
-      processes = processes_change script (MayWrite s w c) w s.processes w (λ q. record q { own = own }) (λ q. refl)
-          (λ q f. memory_becomes script (MayWrite s w c w) (w ≡ w) q own (rw f at live) (inl refl)
+      processes = processes_change script (MayWrite s w c) ⊥ w s.processes w (λ q. record q { own = own }) (λ q. refl)
+          (λ q f. memory_becomes script (MayWrite s w c w) (w ≡ w) ⊥ q own (rw f at live) (inl refl)
           (subst (λ o. KeepsLengths o own) (memory_by-found s w q f) keeps));
       objects = objects_change (MayExchange c) w t s.objects (object_number_by s w h) (TerminalObject terminal)
           (TerminalObject taken.terminal)

@@ -30,11 +30,11 @@ live_of-found (Some q) p e = by_test (is_alive q.life) refl e
     by_test false t f = absurd (cc)
 
 -- a process whose threads alone change
-pub threads_become : (script : Script) (Written Acting : Type 0) (p : Process) (xs : List Thread)
+pub threads_become : (script : Script) (Written Acting Posting : Type 0) (p : Process) (xs : List Thread)
     → is_alive p.life ≡ true
-    → ((ts : List ℕ) → AreThreads ts p.threads → AreThreads ts xs) → ((Acting → ⊥) → PostTheSame p.threads xs)
-    → ProcessBecomes script Written Acting p (record p { threads = xs })
-threads_become script Written Acting p xs alive keeps posted = record {
+    → ((ts : List ℕ) → AreThreads ts p.threads → AreThreads ts xs) → ((Acting × Posting → ⊥) → PostTheSame p.threads xs)
+    → ProcessBecomes script Written Acting Posting p (record p { threads = xs })
+threads_become script Written Acting Posting p xs alive keeps posted = record {
   ended = λ e. absurd (cc);
   number = refl;
   slot = refl;
@@ -51,10 +51,10 @@ threads_become script Written Acting p xs alive keeps posted = record {
 }
 
 -- a process whose memory alone changes
-pub memory_becomes : (script : Script) (Written Acting : Type 0) (p : Process) (own : Own) → is_alive p.life ≡ true
+pub memory_becomes : (script : Script) (Written Acting Posting : Type 0) (p : Process) (own : Own) → is_alive p.life ≡ true
     → Written → KeepsLengths p.own own
-    → ProcessBecomes script Written Acting p (record p { own = own })
-memory_becomes script Written Acting p own alive written lengths = record {
+    → ProcessBecomes script Written Acting Posting p (record p { own = own })
+memory_becomes script Written Acting Posting p own alive written lengths = record {
   ended = λ e. absurd (cc);
   number = refl;
   slot = refl;
@@ -119,10 +119,10 @@ count_effect script s w t c f most v x r new step =
     by_option (thread_in p.threads x) (λ e m. unchanged script s w t c new m.1) (λ y d m.
     let found = live_of-found (process_of s.processes v) p e in
     subst (λ n. CallEffect script s w t c n) (sym m.1)
-    (Changes (tame_process script (MayWrite s w c) (MayExchange c) w t s v
+    (Changes (tame_process script (MayWrite s w c) (MayExchange c) ⊥ w t s v
     (λ q. record q { threads = change_thread x (λ y. record y { suspended = f y.suspended }) q.threads }) (λ q. refl)
     (λ q g. let same : p ≡ q = same_some (process_of s.processes v) p q found.0 g in
-    threads_become script (MayWrite s w c v) (v ≡ w) q
+    threads_become script (MayWrite s w c v) (v ≡ w) ⊥ q
     (change_thread x (λ y. record y { suspended = f y.suspended }) q.threads)
     (rw (← same) found.1)
     (λ ts h. threads-change x (λ y. record y { suspended = f y.suspended }) (λ y. refl) (λ y l. most y.suspended l) ts
