@@ -51,3 +51,5 @@ pub mod ObjectSteps
 pub mod Facts
 pub mod FactLaws
 pub mod StableFacts
+pub mod ValidLaws
+pub mod DrivenLaws
