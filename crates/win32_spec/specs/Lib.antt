@@ -52,4 +52,5 @@ pub mod Facts
 pub mod FactLaws
 pub mod StableFacts
 pub mod ValidLaws
+pub mod AliveLaws
 pub mod DrivenLaws
