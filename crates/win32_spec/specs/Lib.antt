@@ -53,4 +53,5 @@ pub mod FactLaws
 pub mod StableFacts
 pub mod ValidLaws
 pub mod AliveLaws
+pub mod PostedLaws
 pub mod DrivenLaws
