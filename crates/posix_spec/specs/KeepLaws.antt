@@ -1,17 +1,17 @@
 -- A change of one process that keeps its place among the others keeps a state well formed.
-use Rattle.std.specs.Prelude.{◌≡◌, ◌≢◌, ◌⊎◌, ℕ, ◌+◌, ◌≤◌, Bool, true, false, cond, ◌&&◌, nat_eq, length, Option, Some, None, IsTrue, IsSome}
+use Rattle.std.specs.Prelude.{◌≡◌, ◌≢◌, ℕ, Bool, true, false, cond, ◌&&◌, nat_eq, Option, Some, None, IsTrue}
 use Rattle.std.proofs.Common.{refl, sym, ap, subst, ◌∙◌, arith, eqb-true, true≢false}
 use Rattle.script_spec.specs.declared.script.Script.{Script}
-use Rattle.posix_spec.specs.State.{Numbers, CallInProgress, Record, PosixState, record_of}
+use Rattle.posix_spec.specs.State.{Numbers, Record, PosixState, record_of}
 use Rattle.posix_spec.specs.Pending.{is_live, has_deliverable}
-use Rattle.posix_spec.specs.Records.{settled, with_record, changed_at, change_record, children}
+use Rattle.posix_spec.specs.Records.{settled, with_record, changed_at, change_record}
 use Rattle.posix_spec.specs.Waits.{death_to_report}
 use Rattle.posix_spec.specs.Conditions.{next_of}
 use Rattle.posix_spec.specs.DeathSteps.{is_zombie}
-use Rattle.posix_spec.specs.RecordLaws.{each_with_record, record_of-with_record, same_record}
+use Rattle.posix_spec.specs.RecordLaws.{each_with_record, record_of-with_record}
 use Rattle.posix_spec.specs.TestLaws.{children-with_record}
 use Rattle.posix_spec.specs.SignalLaws.{second_of}
-use Rattle.posix_spec.specs.WellFormed.{HasNumbers, HasLife, HasNoNotes, HasSignals, IsImage, HasCall, IsGroupCallOf, IsWellFormedRecord, HasSessions, IsFirstStatus, IsWellFormed}
+use Rattle.posix_spec.specs.WellFormed.{HasNumbers, HasLife, HasNoNotes, HasSignals, IsImage, HasCall, IsWellFormedRecord, HasSessions, IsFirstStatus, IsWellFormed}
 
 -- a record that is well formed once `due` is set only where a signal is deliverable
 pub record IsSound (script : Script) (used : Numbers) (p : ℕ) (r : Record) : Type 0 where
@@ -80,14 +80,15 @@ record Was (s : PosixState) (q : ℕ) (r : Record) : Type 0 where
   group : r.group ≡ before.group
   session : r.session ≡ before.session
 
-module _ (script : Script) (s : PosixState) (p : ℕ) (old new : Record) (w : IsWellFormed script s) (is : record_of s p ≡ Some old) (k : Keeps script s.used p old new) where
+module _ (script : Script) (s : PosixState) (p : ℕ) (old new : Record) (w : IsWellFormed script s) (is : record_of s p ≡ Some old)
+    (group : new.group ≡ old.group) (session : new.session ≡ old.session) where
   was : (q : ℕ) (r : Record) → record_of (with_record s p new) q ≡ Some r → Was s q r
   was = each_with_record (Was s) s p new
-    (record { before = old; is = is; group = k.place.group; session = k.place.session })
+    (record { before = old; is = is; group = group; session = session })
     (λ q r apart there. record { before = r; is = there; group = refl; session = refl })
 
-  sessions_kept : HasSessions (with_record s p new)
-  sessions_kept = record {
+  pub HasSessions-with_record : HasSessions (with_record s p new)
+  HasSessions-with_record = record {
     same = λ m n a b at_m at_n together.
       let x = was m a at_m in let y = was n b at_n in
       x.session ∙ w.sessions.same m n x.before y.before x.is y.is (sym x.group ∙ together ∙ y.group) ∙ sym y.session;
@@ -96,6 +97,7 @@ module _ (script : Script) (s : PosixState) (p : ℕ) (old new : Record) (w : Is
       x.session ∙ w.sessions.leader m x.before y.before x.is (ap (record_of s) (sym x.group) ∙ y.is) ∙ sym y.session;
   }
 
+module _ (script : Script) (s : PosixState) (p : ℕ) (old new : Record) (w : IsWellFormed script s) (is : record_of s p ≡ Some old) (k : Keeps script s.used p old new) where
   first_by : (b : Bool) → nat_eq 2 p ≡ b → IsFirstStatus (cond b (Some (settled new)) (record_of s 2)) s.first_status
   first_by true same =
       let here : record_of s 2 ≡ Some old = ap (record_of s) (eqb-true 2 p same) ∙ is in
@@ -108,7 +110,7 @@ module _ (script : Script) (s : PosixState) (p : ℕ) (old new : Record) (w : Is
       (IsWellFormedRecord-settled script s.used p new k.sound) (λ q r apart there. w.each q r there);
     numbers = w.numbers;
     first_number = w.first_number;
-    sessions = sessions_kept;
+    sessions = HasSessions-with_record script s p old new w is k.place.group k.place.session;
     few_children = λ q. let same = children-with_record s p old new is k.place.parent q in let few = w.few_children q in omega arith;
     is_terminal = w.is_terminal;
     foreground = w.foreground;

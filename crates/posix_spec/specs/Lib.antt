@@ -48,3 +48,4 @@ pub mod WaitLaws
 pub mod ReadLaws
 pub mod RunLaws
 pub mod ConsoleLaws
+pub mod DeathLaws
