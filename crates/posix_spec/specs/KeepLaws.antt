@@ -97,26 +97,35 @@ module _ (script : Script) (s : PosixState) (p : ℕ) (old new : Record) (w : Is
       x.session ∙ w.sessions.leader m x.before y.before x.is (ap (record_of s) (sym x.group) ∙ y.is) ∙ sym y.session;
   }
 
-module _ (script : Script) (s : PosixState) (p : ℕ) (old new : Record) (w : IsWellFormed script s) (is : record_of s p ≡ Some old) (k : Keeps script s.used p old new) where
+-- what holds of the sessions is all that another group or session of the process may break
+module _ (script : Script) (s : PosixState) (p : ℕ) (old new : Record) (w : IsWellFormed script s) (is : record_of s p ≡ Some old)
+    (sound : IsSound script s.used p new) (sessions : HasSessions (with_record s p new)) (parent : new.parent ≡ old.parent)
+    (death : death_to_report new.life ≡ death_to_report old.life) where
   first_by : (b : Bool) → nat_eq 2 p ≡ b → IsFirstStatus (cond b (Some (settled new)) (record_of s 2)) s.first_status
   first_by true same =
       let here : record_of s 2 ≡ Some old = ap (record_of s) (eqb-true 2 p same) ∙ is in
-      k.place.death ∙ subst (λ o. IsFirstStatus o s.first_status) here w.first
+      death ∙ subst (λ o. IsFirstStatus o s.first_status) here w.first
   first_by false apart = w.first
 
-  with_kept : IsWellFormed script (with_record s p new)
-  with_kept = record {
+  pub IsWellFormed-with_record : IsWellFormed script (with_record s p new)
+  IsWellFormed-with_record = record {
     each = each_with_record (IsWellFormedRecord script s.used) s p new
-      (IsWellFormedRecord-settled script s.used p new k.sound) (λ q r apart there. w.each q r there);
+      (IsWellFormedRecord-settled script s.used p new sound) (λ q r apart there. w.each q r there);
     numbers = w.numbers;
     first_number = w.first_number;
-    sessions = HasSessions-with_record script s p old new w is k.place.group k.place.session;
-    few_children = λ q. let same = children-with_record s p old new is k.place.parent q in let few = w.few_children q in omega arith;
+    sessions = sessions;
+    few_children = λ q. let same = children-with_record s p old new is parent q in let few = w.few_children q in omega arith;
     is_terminal = w.is_terminal;
     foreground = w.foreground;
     console_call = w.console_call;
     first = subst (λ o. IsFirstStatus o s.first_status) (sym (record_of-with_record s p new 2)) (first_by (nat_eq 2 p) refl);
   }
+
+with_kept : (script : Script) (s : PosixState) (p : ℕ) (old new : Record) → IsWellFormed script s → record_of s p ≡ Some old → Keeps script s.used p old new →
+    IsWellFormed script (with_record s p new)
+with_kept script s p old new w is k =
+    IsWellFormed-with_record script s p old new w is k.sound
+    (HasSessions-with_record script s p old new w is k.place.group k.place.session) k.place.parent k.place.death
 
 module _ (script : Script) (s : PosixState) (p : ℕ) (change : Record → Record) (w : IsWellFormed script s) where
   changed_kept : ((old : Record) → record_of s p ≡ Some old → IsWellFormedRecord script s.used p old → Keeps script s.used p old (change old)) →

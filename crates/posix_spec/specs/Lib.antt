@@ -49,3 +49,4 @@ pub mod ReadLaws
 pub mod RunLaws
 pub mod ConsoleLaws
 pub mod DeathLaws
+pub mod FamilyLaws

@@ -133,7 +133,7 @@ pub record HasCall (next : Upcoming) (used : Numbers) (live : Bool) (saved : Opt
   pub group_call : (c : GroupCall) → call ≡ ForGroup c → IsGroupCallOf next used due c
 
 -- The numbers of a process: its own, its parent's (1 for that of the first process), its group's and its session's. Who
--- leads a session leads its group; the terminal is that of one session.
+-- leads a session leads its group; the first process leads session 2, which alone has the terminal.
 pub record HasNumbers (used : Numbers) (p parent group session : ℕ) (terminal : Bool) : Type 0 where
   pub number : IsUsed used p
   pub parent_number : (parent ≡ 1) ⊎ IsUsed used parent
@@ -141,6 +141,7 @@ pub record HasNumbers (used : Numbers) (p parent group session : ℕ) (terminal 
   pub group_number : IsUsed used group
   pub session_number : IsUsed used session
   pub leader : session ≡ p → group ≡ p
+  pub first : p ≡ 2 → session ≡ 2
   pub has_terminal : terminal ≡ nat_eq session terminal_session
 
 pub record IsWellFormedRecord (script : Script) (used : Numbers) (p : ℕ) (r : Record) : Type 0 where
