@@ -1,5 +1,5 @@
 -- Groups and sessions that are set keep a state well formed.
-use Rattle.std.specs.Prelude.{◌≡◌, ◌≢◌, ◌⊎◌, ℕ, ◌<◌, ◌≤◌, ℤ, pos, Bool, true, false, ◌&&◌, ◌||◌, not, nat_eq, if◌then◌else◌, Option, Some, None}
+use Rattle.std.specs.Prelude.{◌≡◌, ◌≢◌, ◌⊎◌, ℕ, ℤ, pos, Bool, true, false, ◌&&◌, ◌||◌, not, nat_eq, Option, Some, None}
 use Rattle.std.proofs.Common.{refl, sym, ap, subst, ◌∙◌, true≢false, eqb-true, false-eqb, inl, inr, eq-eqb}
 use Rattle.w32_base.specs.declared.event.Event.TheVariants as event
 use Rattle.w32_base.specs.declared.event.Errno.{Errno}
@@ -10,18 +10,18 @@ use Rattle.script_spec.specs.declared.script.Script.{Script}
 use Rattle.vm_spec.specs.Image.{value_of}
 use Rattle.posix_spec.specs.Numbers.{natural_of}
 use Rattle.posix_spec.specs.State.{Record, PosixState, record_of}
-use Rattle.posix_spec.specs.Records.{settled, with_record, change_record}
+use Rattle.posix_spec.specs.Records.{with_record, change_record}
 use Rattle.posix_spec.specs.Groups.{has_member, has_member_in}
-use Rattle.posix_spec.specs.Checks.{Check, Allowed, Refused, SendsFirst, is_allowed, then_check, check_that}
+use Rattle.posix_spec.specs.Checks.{Check, is_allowed, then_check, check_that}
 use Rattle.posix_spec.specs.Conditions.{answered}
-use Rattle.posix_spec.specs.GroupSteps.{or_this, is_movable, is_joinable, move_check, process_check, group_check, setpgid_check, is_move, in_group, setpgid_step, setsid_check, leading_session, setsid_step}
+use Rattle.posix_spec.specs.GroupSteps.{or_this, is_movable, is_joinable, move_check, group_check, setpgid_check, is_move, in_group, setpgid_step, setsid_check, leading_session, setsid_step}
 use Rattle.posix_spec.specs.Step.{posix_step}
-use Rattle.posix_spec.specs.RecordLaws.{same_record, each_with_record, record_of-with_record, record_of-change_record}
+use Rattle.posix_spec.specs.RecordLaws.{same_record, each_with_record, record_of-change_record}
 use Rattle.posix_spec.specs.TestLaws.{HasRecord, some_record-is, some_record-from}
 use Rattle.posix_spec.specs.SignalLaws.{first_of, second_of}
-use Rattle.posix_spec.specs.WellFormed.{IsUsed, HasNumbers, HasSessions, IsWellFormedRecord, IsWellFormed}
+use Rattle.posix_spec.specs.WellFormed.{IsUsed, HasSessions, IsWellFormed}
 use Rattle.posix_spec.specs.KeepLaws.{IsSound, IsWellFormed-with_record}
-use Rattle.posix_spec.specs.CallLaws.{IsActing, none_some, negation}
+use Rattle.posix_spec.specs.CallLaws.{IsActing, negation}
 use Rattle.posix_spec.specs.AnswerLaws.{after_none, after_if, kept_at, Acts, IsWellFormed-results}
 use Rattle.posix_spec.specs.SentLaws.{Acts-calling, after_call, after_numbers}
 
@@ -97,3 +97,184 @@ module _ (script : Script) (s : PosixState) (q g : ℕ) (target : Record) (w : I
   IsWellFormed-moved =
       subst (IsWellFormed script) (sym (record_of-change_record s q (in_group g) target is))
       (IsWellFormed-with_record script s q target (in_group g target) w is IsSound-moved sessions_moved refl refl)
+
+-- ---- what the checks of setpgid say
+
+passed_of : (b : Bool) (e : Errno) → is_allowed (check_that b e) ≡ true → b ≡ true
+passed_of true e h = refl
+passed_of false e h = h
+
+then_passed : (b : Bool) (e : Errno) (next : Check) → is_allowed (then_check (check_that b e) next) ≡ true → is_allowed next ≡ true
+then_passed true e next h = h
+then_passed false e next h = absurd (true≢false (sym h))
+
+record IsMove (s : PosixState) (r : Record) (q g : ℕ) : Type 0 where
+  target : Record
+  is : record_of s q ≡ Some target
+  movable : is_movable r q target ≡ true
+  joinable : is_joinable s r q g ≡ true
+
+module _ (s : PosixState) (p : ℕ) (r : Record) (q g : ℕ) where
+  move_of : (o : Option Record) → record_of s q ≡ o → is_allowed (move_check s p r q g o) ≡ true → IsMove s r q g
+  move_of None is h = absurd (true≢false (sym h))
+  move_of (Some target) is h =
+      let rest = then_passed (nat_eq q p || nat_eq target.parent p) errno.ESRCH _ h in
+      let last = then_passed (nat_eq q p || not target.execd) errno.EACCES _ rest in
+      let both = passed_of (is_movable r q target && is_joinable s r q g) errno.EPERM last in
+      record {
+        target = target;
+        is = is;
+        movable = first_of (is_movable r q target) (is_joinable s r q g) both;
+        joinable = second_of (is_movable r q target) (is_joinable s r q g) both;
+      }
+
+  move_is : (process group : Option ℕ) → is_move p q g process group ≡ true → is_allowed (group_check s p r process group) ≡ true → IsMove s r q g
+  move_is None None named h = absurd (true≢false (sym named))
+  move_is None (Some group) named h = absurd (true≢false (sym named))
+  move_is (Some process) None named h = absurd (true≢false (sym named))
+  move_is (Some process) (Some group) named h =
+      let this : q ≡ or_this process p = eqb-true q (or_this process p) (first_of (nat_eq q (or_this process p)) _ named) in
+      let that : g ≡ or_this group q = eqb-true g (or_this group q) (second_of (nat_eq q (or_this process p)) _ named) in
+      let at_q : is_allowed (move_check s p r q (or_this group q) (record_of s q)) ≡ true =
+        subst (λ x. is_allowed (move_check s p r x (or_this group x) (record_of s x)) ≡ true) (sym this) h in
+      move_of (record_of s q) refl (subst (λ y. is_allowed (move_check s p r q y (record_of s q)) ≡ true) (sym that) at_q)
+
+not_this : (a b : ℕ) → not (nat_eq a b) ≡ true → a ≢ b
+not_this a b e = false-eqb a b (sym (negation (nat_eq a b) e))
+
+module _ (script : Script) (s : PosixState) (r : Record) (q g : ℕ) (w : IsWellFormed script s) (m : IsMove s r q g) where
+  same_session : m.target.session ≡ r.session
+  same_session = eqb-true m.target.session r.session (second_of (not (nat_eq m.target.session q)) _ m.movable)
+
+  apart : m.target.session ≢ q
+  apart = not_this m.target.session q (first_of (not (nat_eq m.target.session q)) _ m.movable)
+
+  named_after : g ≡ q → IsWellFormed script (change_record s q (in_group g))
+  named_after same =
+      let here : record_of s g ≡ Some m.target = ap (record_of s) same ∙ m.is in
+      IsWellFormed-moved script s q g m.target w m.is (subst (IsUsed s.used) (sym same) (w.each q m.target m.is).numbers.number) apart
+      (λ n x there group. w.sessions.leader n x m.target there (ap (record_of s) group ∙ here))
+      (λ x there. ap (λ y. y.session) (same_record x m.target (sym there ∙ here)))
+
+  with_member : HasRecord s (λ n x. nat_eq x.group g && nat_eq x.session r.session) → IsWellFormed script (change_record s q (in_group g))
+  with_member found =
+      let group : found.process.group ≡ g = eqb-true found.process.group g (first_of (nat_eq found.process.group g) _ found.passes) in
+      let session : found.process.session ≡ m.target.session =
+        eqb-true found.process.session r.session (second_of (nat_eq found.process.group g) _ found.passes) ∙ sym same_session in
+      IsWellFormed-moved script s q g m.target w m.is (subst (IsUsed s.used) group (w.each found.number found.process found.is).numbers.group_number) apart
+      (λ n x there same. w.sessions.same n found.number x found.process there found.is (same ∙ sym group) ∙ session)
+      (λ x there. sym (w.sessions.leader found.number found.process x found.is (ap (record_of s) group ∙ there)) ∙ session)
+
+  move_by : (b : Bool) → nat_eq g q ≡ b → (b || has_member_in s g r.session) ≡ true → IsWellFormed script (change_record s q (in_group g))
+  move_by true same joins = named_after (eqb-true g q same)
+  move_by false other joins = with_member (some_record-is s (λ n x. nat_eq x.group g && nat_eq x.session r.session) joins)
+
+  IsWellFormed-move : IsWellFormed script (change_record s q (in_group g))
+  IsWellFormed-move = move_by (nat_eq g q) refl m.joinable
+
+-- ---- a session is begun
+
+module _ (script : Script) (s : PosixState) (p : ℕ) (old : Record) (w : IsWellFormed script s) (is : record_of s p ≡ Some old) (alone : has_member s p ≡ false) where
+  not_in_it : (n : ℕ) (r : Record) → record_of s n ≡ Some r → r.group ≢ p
+  not_in_it n r there same = true≢false (sym (some_record-from s (λ q x. nat_eq x.group p) n r there (eq-eqb r.group p same)) ∙ alone)
+
+  new_session : (n : ℕ) (r : Record) → record_of (with_record s p (leading_session p old)) n ≡ Some r →
+      ((n ≡ p) × (r.group ≡ p) × (r.session ≡ p)) ⊎ ((n ≢ p) × (record_of s n ≡ Some r))
+  new_session = each_with_record (λ n r. ((n ≡ p) × (r.group ≡ p) × (r.session ≡ p)) ⊎ ((n ≢ p) × (record_of s n ≡ Some r))) s p (leading_session p old)
+    (inl (refl, refl, refl)) (λ n r apart there. inr (apart, there))
+
+  sessions_led : HasSessions (with_record s p (leading_session p old))
+  sessions_led = record {
+    same = λ m n a b at_m at_n together. elim (new_session m a at_m) [
+      | inl here ↦ elim (new_session n b at_n) [
+          | inl also ↦ here.2 ∙ sym also.2
+          | inr there ↦ absurd (not_in_it n b there.1 (sym together ∙ here.1))
+        ]
+      | inr there ↦ elim (new_session n b at_n) [
+          | inl here ↦ absurd (not_in_it m a there.1 (together ∙ here.1))
+          | inr also ↦ w.sessions.same m n a b there.1 also.1 together
+        ]
+    ];
+    leader = λ m a b at_m at_g. elim (new_session m a at_m) [
+      | inl here ↦ elim (new_session a.group b at_g) [
+          | inl also ↦ here.2 ∙ sym also.2
+          | inr there ↦ absurd (there.0 here.1)
+        ]
+      | inr there ↦ elim (new_session a.group b at_g) [
+          | inl here ↦ absurd (not_in_it m a there.1 here.0)
+          | inr also ↦ w.sessions.leader m a b there.1 also.1
+        ]
+    ];
+  }
+
+  not_first : p ≢ 2
+  not_first same =
+      let n = (w.each p old is).numbers in
+      not_in_it p old is (n.leader (n.first same ∙ sym same))
+
+  no_terminal : (b : Bool) → nat_eq p 2 ≡ b → false ≡ b
+  no_terminal true same = absurd (not_first (eqb-true p 2 same))
+  no_terminal false other = refl
+
+  IsSound-leading : IsSound script s.used p (leading_session p old)
+  IsSound-leading =
+      let good = w.each p old is in
+      record {
+        numbers = record {
+          number = good.numbers.number;
+          parent_number = good.numbers.parent_number;
+          not_own_parent = good.numbers.not_own_parent;
+          group_number = good.numbers.number;
+          session_number = good.numbers.number;
+          leader = λ _. refl;
+          first = λ same. same;
+          has_terminal = no_terminal (nat_eq p 2) refl;
+        };
+        lives = good.lives;
+        notes = good.notes;
+        signals = good.signals;
+        runs = good.runs;
+        calls = good.calls;
+      }
+
+  IsWellFormed-leading : IsWellFormed script (change_record s p (leading_session p))
+  IsWellFormed-leading =
+      subst (IsWellFormed script) (sym (record_of-change_record s p (leading_session p) old is))
+      (IsWellFormed-with_record script s p old (leading_session p old) w is IsSound-leading sessions_led refl refl)
+
+-- ---- the events
+
+module _ (script : Script) (s new : PosixState) (p : ℕ) (w : IsWellFormed script s) where
+  moves : (q g : ℕ) (r : Record) (i : Instr) → Acts s p → setpgid_step s p q g r i ≡ Some new → IsWellFormed script new
+  moves q g r (instr.SetPgid process group) acts found =
+      after_if (IsWellFormed script) (is_move p q g (natural_of (value_of r.image process)) (natural_of (value_of r.image group))
+        && is_allowed (setpgid_check s p r (value_of r.image process) (value_of r.image group)))
+      (answered (change_record s q (in_group g)) p (pos 0)) new
+      (λ passed.
+        let named = first_of (is_move p q g (natural_of (value_of r.image process)) (natural_of (value_of r.image group))) _ passed in
+        let allowed = second_of (is_move p q g (natural_of (value_of r.image process)) (natural_of (value_of r.image group))) _ passed in
+        IsWellFormed-results script (change_record s q (in_group g)) p (pos 0) None
+        (IsWellFormed-move script s r q g w (move_is s p r q g (natural_of (value_of r.image process)) (natural_of (value_of r.image group)) named allowed))
+        (kept_at IsActing s p q (in_group g) acts (λ x a. record { running = a.running; unsaved = a.unsaved }))) found
+  moves q g r _ acts found = after_none (IsWellFormed script) new found
+
+  pub keeps-setpgid : (q g : ℤ) → posix_step script s (event.SetPgid p q g) ≡ Some new → IsWellFormed script new
+  unfolding posix_step
+  keeps-setpgid q g e =
+      after_numbers (IsWellFormed script) script s new q g _
+      (λ m n found. after_call (IsWellFormed script) script s new p (setpgid_step s p m n)
+        (λ r i is c done. moves m n r i (Acts-calling script s p w r i is c) done) found) e
+
+  leads : (r : Record) (i : Instr) → record_of s p ≡ Some r → Acts s p → setsid_step s p r i ≡ Some new → IsWellFormed script new
+  leads r instr.SetSid is acts found =
+      after_if (IsWellFormed script) (is_allowed (setsid_check s p)) (answered (change_record s p (leading_session p)) p (pos p)) new
+      (λ passed. IsWellFormed-results script (change_record s p (leading_session p)) p (pos p) None
+        (IsWellFormed-leading script s p r w is (negation (has_member s p) (passed_of (not (has_member s p)) errno.EPERM passed)))
+        (kept_at IsActing s p p (leading_session p) acts (λ x a. record { running = a.running; unsaved = a.unsaved }))) found
+  leads r _ is acts found = after_none (IsWellFormed script) new found
+
+  pub keeps-setsid : posix_step script s (event.SetSid p) ≡ Some new → IsWellFormed script new
+  unfolding posix_step
+  keeps-setsid e =
+      after_call (IsWellFormed script) script s new p (setsid_step s p)
+      (λ r i is c done. leads r i is (Acts-calling script s p w r i is c) done) e
