@@ -50,3 +50,4 @@ pub mod RunLaws
 pub mod ConsoleLaws
 pub mod DeathLaws
 pub mod FamilyLaws
+pub mod ForkLaws
