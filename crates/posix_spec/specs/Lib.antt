@@ -24,6 +24,7 @@ pub mod Step
 pub mod Opening
 pub mod Run
 pub mod Waiting
+pub mod Ranges
 pub mod WellFormed
 pub mod RecordLaws
 pub mod EntryLaws
@@ -51,3 +52,5 @@ pub mod ConsoleLaws
 pub mod DeathLaws
 pub mod FamilyLaws
 pub mod ForkLaws
+pub mod ExecLaws
+pub mod OpeningLaws

@@ -1,8 +1,7 @@
 -- An image stays one of a program of its script through a block of local instructions; and so does the first one.
-use Rattle.std.specs.Prelude.{◌≡◌, ℕ, zero, suc, ◌+◌, ◌-◌, ◌*◌, ◌^◌, ◌<◌, ◌≤◌, ℤ, ◌+ℤ◌, pos, Bool, true, false, nat_lt, if◌then◌else◌, List, [], ◌∷◌, ◌++◌, length, take, drop, slice_index, slice_get, Option, Some, None, IsTrue, IsSomeAnd, replicate}
-use Rattle.std.specs.List.{All}
+use Rattle.std.specs.Prelude.{◌≡◌, ℕ, zero, suc, ◌+◌, ◌-◌, ◌^◌, ◌<◌, ◌≤◌, ℤ, ◌+ℤ◌, pos, Bool, true, false, if◌then◌else◌, List, length, slice_index, slice_get, Some, IsTrue, IsSomeAnd, replicate}
 use Rattle.std.specs.Int.{w32, cast_unsigned, cast_signed, int_wrap}
-use Rattle.std.proofs.Common.{refl, sym, ap, subst, ◌∙◌, arith, length-set, ltb-true, ltb-false, length-append, length-take, length-drop}
+use Rattle.std.proofs.Common.{refl, sym, ap, subst, ◌∙◌, arith, length-set, ltb-true, ltb-false}
 use Rattle.std.proofs.lemmas.Bool.{cond_both}
 use Rattle.std.proofs.lemmas.Option.{slice_get_within, get_or_from_slice_get}
 use Rattle.std.proofs.lemmas.List.{length-replicate}
@@ -11,7 +10,7 @@ use Rattle.w32_base.specs.declared.instr.Instr.{Instr}
 use Rattle.w32_base.specs.declared.instr.Instr.TheVariants as instr
 use Rattle.w32_base.specs.declared.setup.Program.{Program}
 use Rattle.script_spec.specs.declared.script.Script.{Script}
-use Rattle.vm_spec.specs.Image.{Image, word_at, with_word, register_of, value_of, with_register, at_place, moved_on, in_use, with_in_use, place_of, program_of}
+use Rattle.vm_spec.specs.Image.{Image, word_at, with_word, register_of, value_of, at_place, moved_on, in_use, with_in_use, place_of}
 use Rattle.vm_spec.specs.Faults.{instr_faults}
 use Rattle.vm_spec.specs.Step.{upcoming, LocalInstruction, after_local, after_local_at, local_step, block_of, address_of, low_byte, is_zero, is_below_zero}
 use Rattle.vm_spec.specs.Block.{block_length, block_image}
@@ -20,17 +19,13 @@ use Rattle.vm_spec.specs.StepLaws.{IsNextLocal, next_local}
 use Rattle.vm_spec.specs.SizeLaws.{writes_register}
 use Rattle.vm_spec.specs.NewImage.{new_image}
 use Rattle.vm_spec.specs.WordLaws.{length-with_word, word_at-with_word, word_at-with_word_below}
-use Rattle.posix_spec.specs.Conditions.{code_at, code_of}
+use Rattle.posix_spec.specs.Ranges.{WritesRegisters}
 use Rattle.posix_spec.specs.WellFormed.{IsImage, FitsProgram}
 use Rattle.posix_spec.specs.ImageLaws.{IsImage-register, IsImage-at_place, IsImage-moved_on, IsImage-heap, IsImage-stack, IsImage-with_in_use}
 
 none_in_use : word_at (replicate 64 0) 36 ≡ 0
 unfolding word_at
 none_in_use = refl
-
--- the registers that a program's instructions write are among the eight
-abbrev pub WritesRegisters : List Instr → Type 0
-WritesRegisters code = All (λ i. IsTrue (writes_register i)) code
 
 module _ (script : Script) where
   jumped : (image : Image) (b : Bool) (n : ℕ) → IsImage script image → IsImage script (if b then at_place image n else moved_on image)

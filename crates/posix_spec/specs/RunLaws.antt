@@ -1,6 +1,5 @@
 -- Blocks of local instructions, reads and new programs keep a state well formed.
 use Rattle.std.specs.Prelude.{◌≡◌, ◌≢◌, ◌⊎◌, ℕ, ◌+◌, ◌≤◌, ℤ, pos, negsuc, min, Bool, true, false, ◌&&◌, nat_eq, nat_lt, if◌then◌else◌, List, [], ◌∷◌, length, slice_get, Option, Some, None, IfSome}
-use Rattle.std.specs.List.{All}
 use Rattle.std.specs.Option.{unwrap_or}
 use Rattle.std.proofs.Common.{refl, sym, ap, subst, ◌∙◌, arith, true≢false, ltb-true, ltb-false, inl, inr, length-append, length-take, length-drop}
 use Rattle.std.proofs.lemmas.Option.{slice_get_within, get_or_from_slice_get}
@@ -32,7 +31,8 @@ use Rattle.posix_spec.specs.Step.{posix_step}
 use Rattle.posix_spec.specs.RecordLaws.{same_record}
 use Rattle.posix_spec.specs.SignalLaws.{first_of}
 use Rattle.posix_spec.specs.ImageLaws.{IsImage-heap, IsImage-with_result}
-use Rattle.posix_spec.specs.LocalLaws.{WritesRegisters, IsImage-block}
+use Rattle.posix_spec.specs.Ranges.{WritesRegisters, HasRegisters}
+use Rattle.posix_spec.specs.LocalLaws.{IsImage-block}
 use Rattle.posix_spec.specs.WellFormed.{IsUsed, IsWellFormedRecord, IsWellFormed, is_blocking_next, is_wait_next, is_group_next, is_suspend_next}
 use Rattle.posix_spec.specs.KeepLaws.{Keeps, IsWellFormed-change}
 use Rattle.posix_spec.specs.CallLaws.{IsCalling, IsActing-calling, Keeps-ended, next_call, none_some, running_not_zombie, running_is_live}
@@ -86,10 +86,6 @@ length-with_bytes heap place bytes (inl none) = simp (length-append, length-take
 length-with_bytes heap place bytes (inr inside) = simp (length-append, length-take, length-drop) (omega arith)
 
 -- ---- programs of the script
-
--- the registers that the instructions of the script's programs write are among the eight
-abbrev pub HasRegisters : Script → Type 0
-HasRegisters script = All (λ (program : Program). WritesRegisters program.code) script.setup.programs
 
 program_registers : (script : Script) (registers : HasRegisters script) (n : ℕ) (o : Option Program) → slice_get script.setup.programs n ≡ o → WritesRegisters (code_at o)
 program_registers script registers n None is = λ k d low. absurd (omega arith)
