@@ -54,3 +54,4 @@ pub mod FamilyLaws
 pub mod ForkLaws
 pub mod ExecLaws
 pub mod OpeningLaws
+pub mod StepLaws
