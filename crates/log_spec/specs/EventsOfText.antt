@@ -1,6 +1,6 @@
 -- A text of view `events` says one list of events, the log of a journal in that view is one, and a text has at most one
 -- fault.
-use Rattle.std.specs.Prelude.{◌≡◌, ℕ, ◌-◌, true, not, nat_eq, List, [], ◌∷◌, ◌++◌, map, length, take, drop, codes}
+use Rattle.std.specs.Prelude.{◌≡◌, ℕ, ◌-◌, true, List, [], ◌∷◌, ◌++◌, map, length, take, drop, codes}
 use Rattle.std.specs.List.{list_all}
 use Rattle.std.proofs.Common.{refl, arith, sym, ap, ◌∙◌, append_assoc, length-append}
 use Rattle.std.proofs.Math.Seq.{take-append_seam}
@@ -17,16 +17,12 @@ use Rattle.log_spec.specs.EventsText.{IsEventsText, events_text}
 use Rattle.log_spec.specs.EventsRead.{event_in, event_in_line, events_in, lines_in}
 use Rattle.log_spec.specs.EventsReadLaws.{parts}
 use Rattle.log_spec.specs.EventsReadBack.{read_back}
-use Rattle.log_spec.specs.EventsTextLaws.{first_part, event_words, event_has_no_end}
+use Rattle.log_spec.specs.LineLaws.{line_is_parted}
+use Rattle.log_spec.specs.EventsTextLaws.{event_words, event_has_no_end}
 
 -- an event's line is read back
-event_is_read : (script : Script) (e : Event) → is_event_within script e ≡ true → event_in_line (event_text e) ≡ e
+pub event_is_read : (script : Script) (e : Event) → is_event_within script e ≡ true → event_in_line (event_text e) ≡ e
 event_is_read script e h = ap event_in (event_words script e h) ∙ read_back script e h
-
--- a line and what follows it are parted
-line_is_parted : (text rest : List ℕ) → list_all (λ b. not (nat_eq b 10)) text ≡ true
-    → lines_in (line text ++ rest) ≡ text ∷ lines_in rest
-line_is_parted text rest h = ap lines_in (append_assoc text (10 ∷ []) rest) ∙ first_part 10 text rest h
 
 event_lines_are_parted : (script : Script) (events : List Event) (rest : List ℕ)
     → list_all (is_event_within script) events ≡ true
@@ -43,7 +39,7 @@ end_is_parted end.Quiet = refl
 end_is_parted end.Given = refl
 end_is_parted end.Budget = refl
 
-text_is_parted : (script : Script) (events : List Event) (e : End) → list_all (is_event_within script) events ≡ true
+pub text_is_parted : (script : Script) (events : List Event) (e : End) → list_all (is_event_within script) events ≡ true
     → lines_in (events_text events e) ≡ (codes "log events" ∷ map event_text events) ++ end_text e ∷ [] ∷ []
 unfolding events_text
 text_is_parted script events e h =

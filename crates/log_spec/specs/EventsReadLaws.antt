@@ -22,6 +22,11 @@ pub parts : (a b : Bool) → (a && b) ≡ true → (a ≡ true) × (b ≡ true)
 parts true b h = (refl, h)
 parts false b h = absurd (grind arith)
 
+-- two tests that hold, together
+pub together : (a b : Bool) → a ≡ true → b ≡ true → (a && b) ≡ true
+together true b _ h = h
+together false b h _ = h
+
 -- what `decimal` writes is read back
 pub natural_is : (n : ℕ) → n < 2 ^ 64 → natural_in (decimal n) ≡ n
 natural_is n h = (decimal_is_IsNumeral n h).1

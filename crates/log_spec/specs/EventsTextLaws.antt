@@ -25,7 +25,7 @@ use Rattle.log_spec.specs.Texts.{spaced, byte_text, bytes_text}
 use Rattle.log_spec.specs.Words.{Word, Plain, Actor, Host, Numeral, ProgramName, ModuleName, KeyByte, Bytes, word_text, is_actor, is_numeral, is_word_within}
 use Rattle.log_spec.specs.Events.{errno_text, words_of, event_text, is_event_within}
 use Rattle.log_spec.specs.EventsRead.{words_in}
-use Rattle.log_spec.specs.EventsReadLaws.{parts}
+use Rattle.log_spec.specs.EventsReadLaws.{parts, together}
 
 -- a byte that is neither a space nor a line's end, and a text of such bytes
 abbrev pub is_visible : ℕ → Bool
@@ -33,10 +33,6 @@ is_visible byte = nat_lt 32 byte
 
 abbrev pub is_visible_text : List ℕ → Bool
 is_visible_text text = list_all is_visible text
-
-together : (a b : Bool) → a ≡ true → b ≡ true → (a && b) ≡ true
-together true b _ h = h
-together false b h _ = h
 
 joined : (xs ys : List ℕ) → is_visible_text xs ≡ true → is_visible_text ys ≡ true → is_visible_text (xs ++ ys) ≡ true
 joined xs ys h k = list_all-append is_visible xs ys ∙ together (is_visible_text xs) (is_visible_text ys) h k

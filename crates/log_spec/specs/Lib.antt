@@ -12,5 +12,8 @@ pub mod EventsRead
 pub mod EventsReadLaws
 pub mod EventsReadBack
 pub mod EventsTextLaws
+pub mod LineLaws
 pub mod EventsOfText
 pub mod LogFaultLaws
+pub mod LogFaults
+pub mod TextOrFault

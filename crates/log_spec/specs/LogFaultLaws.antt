@@ -9,7 +9,7 @@ use Rattle.log_spec.specs.Texts.{line}
 use Rattle.log_spec.specs.EventsText.{IsLogFault, lines_text, is_one_line}
 use Rattle.log_spec.specs.EventsRead.{lines_in}
 use Rattle.log_spec.specs.EventsReadLaws.{parts}
-use Rattle.log_spec.specs.EventsTextLaws.{first_part}
+use Rattle.log_spec.specs.LineLaws.{line_is_parted}
 
 -- of two partings of the same bytes into whole lines and a rest, the one with more lines goes on where the other ends
 record GoesOn (lines others : List (List ℕ)) (rest other_rest : List ℕ) : Type 0 where
@@ -18,9 +18,6 @@ record GoesOn (lines others : List (List ℕ)) (rest other_rest : List ℕ) : Ty
   one : is_one_line next ≡ true
   rest_is : rest ≡ line next ++ (lines_text more ++ other_rest)
   others_are : lines_text others ≡ (lines_text lines ++ line next) ++ lines_text more
-
-line_is_parted : (text rest : List ℕ) → is_one_line text ≡ true → lines_in (line text ++ rest) ≡ text ∷ lines_in rest
-line_is_parted text rest h = ap lines_in (append_assoc text (10 ∷ []) rest) ∙ first_part 10 text rest h
 
 with_front : (a b front whole next more : List ℕ) → a ≡ b → whole ≡ (front ++ next) ++ more
     → line b ++ whole ≡ ((line a ++ front) ++ next) ++ more
