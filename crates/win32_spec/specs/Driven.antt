@@ -37,6 +37,13 @@ pub record DrivenState (P : Type 0) : Type 0 where
   pub parts : Parts P
   pub last : Option Event
 
+-- whether a slot has the same process as before, or none as before
+abbrev pub is_same_number : Option ℕ → Option ℕ → Bool
+is_same_number None None = true
+is_same_number None (Some w) = false
+is_same_number (Some v) None = false
+is_same_number (Some v) (Some w) = nat_eq v w
+
 -- What a type of parts means: the call that a part posts, what a turn may do (from the part, the own bytes, the setup
 -- and the reply, to the part, the own bytes and the answer), whether it is as it is opened, and the thread that it
 -- serves.
@@ -63,13 +70,6 @@ module _ {P : Type 0} (posted_of : P → Call) (goes : P → Own → Setup → R
   abbrev pub OpensPart : Option Thread → ℕ → ℕ → Option P → Type 0
   OpensPart None slot t now = now ≡ None
   OpensPart (Some x) slot t now = (part : P) × (now ≡ Some part) × IsOpened slot t part
-
-  -- whether a slot has the same process as before, or none as before
-  abbrev pub is_same_number : Option ℕ → Option ℕ → Bool
-  is_same_number None None = true
-  is_same_number None (Some w) = false
-  is_same_number (Some v) None = false
-  is_same_number (Some v) (Some w) = nat_eq v w
 
   -- The part at a place after a step in which it didn't go on: it stays while the slot has the same process. The
   -- parts of a process that has ended go, and those of a process that was made come as they are opened.

@@ -55,3 +55,4 @@ pub mod ValidLaws
 pub mod AliveLaws
 pub mod PostedLaws
 pub mod DrivenLaws
+pub mod ServedLaws
