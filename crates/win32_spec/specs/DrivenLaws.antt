@@ -26,7 +26,7 @@ module _ {P : Type 0} (posted_of : P → Call) (goes : P → Own → Setup → R
     (opening : P → Type 0) (slot_of thread_of : P → ℕ)
     (keeps_lengths : (p q : P) (o n : Own) (s : Setup) (r : Reply) (a : After) → goes p o s r q n a → KeepsLengths o n) where
 
-  driven_turn : (script : Script) (slot t : ℕ) (d new : DrivenState P) (called : Option Call) (came : Outcome)
+  pub driven_turn : (script : Script) (slot t : ℕ) (d new : DrivenState P) (called : Option Call) (came : Outcome)
       → ReadyTurnOf posted_of goes opening slot_of thread_of script d slot t called came new
       → ReadyTurn script d.win32 slot t called came new.win32
   driven_turn script slot t d new called came of = record {

@@ -56,3 +56,4 @@ pub mod AliveLaws
 pub mod PostedLaws
 pub mod DrivenLaws
 pub mod ServedLaws
+pub mod ServedSteps

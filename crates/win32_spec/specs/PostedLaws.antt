@@ -124,7 +124,7 @@ alive-step script s (directive.Key b) called came new registers h step v p q e f
     (same_some (process_of s.processes v) q p (subst (λ (n : Win32State). process_of n.processes v ≡ Some q) step.2 f) e)
 
 -- a posted call is that of a thread
-posted_found : (o : Option Thread) (c : Call) → posted_by o ≡ Some c → (y : Thread) × (o ≡ Some y) × (y.posted ≡ c)
+pub posted_found : (o : Option Thread) (c : Call) → posted_by o ≡ Some c → (y : Thread) × (o ≡ Some y) × (y.posted ≡ c)
 posted_found None c e = absurd (cc)
 posted_found (Some y) c e = (y, refl, cc)
 

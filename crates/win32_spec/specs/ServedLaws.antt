@@ -19,6 +19,7 @@ use Rattle.win32_spec.specs.Run.{StepBy}
 use Rattle.win32_spec.specs.Driven.{Parts, part_at, DrivenState, IsOpened, Serves, AreServed, OpensPart, is_same_number, PartFollows, PartGoes, DrivenTurn, ReadyTurnOf, Rests, DrivenBy}
 use Rattle.win32_spec.specs.WellFormed.{IsFormed, IsWellFormed}
 use Rattle.win32_spec.specs.LookupLaws.{same, differs, same_some, not_none, process_of-number, process_in-found, process_in-free}
+use Rattle.win32_spec.specs.FormedLaws.{found_live, live_found}
 use Rattle.win32_spec.specs.Tame.{posted_by}
 use Rattle.win32_spec.specs.CallEffects.{by_bool}
 use Rattle.win32_spec.specs.MemoryEffects.{HaveRegisters}
@@ -80,7 +81,8 @@ module _ {P : Type 0} (posted_of : P → Call) (goes : P → Own → Setup → R
           absurd (other r at (process_of-number s.processes q.number r g))
 
   -- a place whose part follows is served
-  served-follows : (slot t : ℕ) → IsWellFormed script new → ((w : ℕ) → number_in s slot ≡ Some w → IsTurnOfThread s d w t → ⊥)
+  pub served-follows : (slot t : ℕ) → IsWellFormed script new → ((w : ℕ) → number_in s slot ≡ Some w → is_live (process_of new.processes w) ≡ true
+        → IsTurnOfThread s d w t → ⊥)
       → PartFollows posted_of goes opening slot_of thread_of_part s new parts after slot t
       → ServedBy (thread_at new slot t) slot t (part_at after slot t)
   served-follows slot t formed apart follows =
@@ -99,10 +101,11 @@ module _ {P : Type 0} (posted_of : P → Call) (goes : P → Own → Setup → R
       by_number p q true n e f was m =
           let was_found = process_in-found 1 s.next s.processes slot p h.formed.processes e in
           let found = process_in-found 1 new.next new.processes slot q formed.formed.processes f in
-          let k = alive-step script s d called came new registers h step p.number p q was_found.0
-              (ap (process_of new.processes) (eqb-true p.number q.number n) ∙ found.0) found.1 in
+          let now : process_of new.processes p.number ≡ Some q =
+          ap (process_of new.processes) (eqb-true p.number q.number n) ∙ found.0 in
+          let k = alive-step script s d called came new registers h step p.number p q was_found.0 now found.1 in
           served_stays (thread_in p.threads t) (thread_in q.threads t) slot t (part_at parts slot t) (part_at after slot t)
-          (k.posted t (apart p.number (ap number_of e))) m was
+          (k.posted t (apart p.number (ap number_of e) (found_live (process_of new.processes p.number) q now found.1))) m was
       by_number p q false n e f was m =
           served_opened (thread_in q.threads t) slot t (part_at after slot t)
           (made (Some p) q e f (λ r g i. let j : p ≡ r = cc in
