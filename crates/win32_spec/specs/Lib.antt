@@ -57,3 +57,4 @@ pub mod PostedLaws
 pub mod DrivenLaws
 pub mod ServedLaws
 pub mod ServedSteps
+pub mod ServedOpening
