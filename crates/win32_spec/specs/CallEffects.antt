@@ -65,7 +65,8 @@ is_terminal _ terminal e = absurd (cc)
 pub unchanged : (script : Script) (s : Win32State) (w t : ℕ) (c : Call) (new : Win32State) → new ≡ s
     → CallEffect script s w t c new
 unchanged script s w t c new e =
-    subst (λ n. CallEffect script s w t c n) (sym e) (Changes (tame_same script (MayWrite s w c) (MayExchange c) ⊥ w t s))
+    subst (λ n. CallEffect script s w t c n) (sym e)
+    (Changes (tame_same script (MayWrite s w c) (MayExchange c) ⊥ w t s))
 
 -- a call that changes what an object holds
 pub object_changes : (script : Script) (s : Win32State) (w t : ℕ) (c : Call) (h : ℕ) (x y : Object) (new : Win32State)

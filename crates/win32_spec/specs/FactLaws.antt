@@ -85,7 +85,8 @@ module _ (script : Script) (s : Win32State) (slot t : ℕ) (called : Option Call
 
     pub turn_other : (v : ℕ) (p q : Process) → process_of s.processes v ≡ Some p → process_of new.processes v ≡ Some q
         → is_alive q.life ≡ true
-        → (number_in s slot ≡ Some v → ⊥) → ProcessBecomes script (IsWrittenTo s (directive.Turn slot t) called v) ⊥ ⊥ p q
+        → (number_in s slot ≡ Some v → ⊥)
+        → ProcessBecomes script (IsWrittenTo s (directive.Turn slot t) called v) ⊥ ⊥ p q
     turn_other v p q e f alive apart =
         let d : v ≢ turn.process.number = λ n. apart (turn_number ∙ ap Some (sym n)) in
         becomes_weaken script (MayWrite s turn.process.number turn.thread.posted v)

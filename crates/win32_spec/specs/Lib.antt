@@ -51,6 +51,8 @@ pub mod ObjectSteps
 pub mod Facts
 pub mod FactLaws
 pub mod StableFacts
+pub mod StepFacts
+pub mod PlacingLaws
 pub mod ValidLaws
 pub mod AliveLaws
 pub mod PostedLaws

@@ -17,7 +17,8 @@ use Rattle.win32_spec.specs.TameSteps.{process_same}
 use Rattle.win32_spec.specs.Effects.{MayWrite, CallEffect, Changes, Opens, Adds, AddsPipe, Makes, Closes, Ends}
 
 -- One change after another.
-pub becomes_trans : (script : Script) (A B C D E F G H I : Type 0) (p q r : Process) → (A → C) → (B → C) → (D → F) → (E → F) → (G → I) → (H → I)
+pub becomes_trans : (script : Script) (A B C D E F G H I : Type 0) (p q r : Process) → (A → C) → (B → C) → (D → F)
+    → (E → F) → (G → I) → (H → I)
     → ProcessBecomes script A D G p q → ProcessBecomes script B E H q r → ProcessBecomes script C F I p r
 becomes_trans script A B C D E F G H I p q r a b d e g i one two = record {
   ended = λ dead. two.ended (ap is_alive one.life ∙ dead) ∙ one.ended dead;

@@ -77,7 +77,8 @@ pub posted_tame : (script : Script) (s : Win32State) (w t : ℕ) (next : Call) �
 posted_tame script s w t next live =
     tame_process script (λ v. v ≡ w) ⊥ (Unit {0}) w t s w
     (λ q. record q { threads = change_thread t (λ x. record x { posted = next }) q.threads }) (λ q. refl)
-    (λ q f. threads_become script (w ≡ w) (w ≡ w) (Unit {0}) q (change_thread t (λ x. record x { posted = next }) q.threads)
+    (λ q f. threads_become script (w ≡ w) (w ≡ w) (Unit {0}) q
+    (change_thread t (λ x. record x { posted = next }) q.threads)
     (rw f at live)
     (λ ts h. threads-change t (λ x. record x { posted = next }) (λ x. refl) (λ x l. l) ts q.threads h)
     (λ n. absurd (n (refl, tt))))

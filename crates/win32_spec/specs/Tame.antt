@@ -24,8 +24,8 @@ posted_by (Some x) = Some x.posted
 abbrev pub PostTheSame : List Thread → List Thread → Type 0
 PostTheSame xs ys = (t : ℕ) → posted_by (thread_in ys t) ≡ posted_by (thread_in xs t)
 
--- A process after such a change. Its bytes are as before unless `Written` holds, its modules unless `Acting` does, and its
--- posted calls unless `Posting` does too.
+-- A process after such a change. Its bytes are as before unless `Written` holds, its modules unless `Acting` does,
+-- and its posted calls unless `Posting` does too.
 pub record ProcessBecomes (script : Script) (Written Acting Posting : Type 0) (p q : Process) : Type 0 where
   pub ended : is_alive p.life ≡ false → q ≡ p
   pub number : q.number ≡ p.number

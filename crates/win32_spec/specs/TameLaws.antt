@@ -43,7 +43,8 @@ sizes_stay p q a b c d e k h = record {
   scratch_size = k.scratch ∙ h.scratch_size;
 }
 
-kind_stays : (script : Script) (Written Acting Posting : Type 0) (p q : Process) → ProcessBecomes script Written Acting Posting p q
+kind_stays : (script : Script) (Written Acting Posting : Type 0) (p q : Process)
+    → ProcessBecomes script Written Acting Posting p q
     → MatchOption p.program (IsHost p) (IsLayerProcess script p)
     → MatchOption q.program (IsHost q) (IsLayerProcess script q)
 kind_stays script Written Acting Posting p q b k =

@@ -15,7 +15,8 @@ pub lengths-same : (own : Own) → KeepsLengths own own
 lengths-same own = record { dat = refl; heap = refl; stack = refl; cyg = refl; scratch = refl }
 
 -- a process that stays as it is
-pub process_same : (script : Script) (Written Acting Posting : Type 0) (p : Process) → ProcessBecomes script Written Acting Posting p p
+pub process_same : (script : Script) (Written Acting Posting : Type 0) (p : Process)
+    → ProcessBecomes script Written Acting Posting p p
 process_same script Written Acting Posting p = record {
   ended = λ e. refl;
   number = refl;
@@ -60,18 +61,22 @@ processes_change script Written Posting w ps v f keeps becomes = record {
         (process_of (change_process v f ps) k)) (sym n)
         (here (process_of ps v) refl)
     | inr d ↦
-        both_same (ProcessBecomes script (Written u) (u ≡ w) Posting) (process_of ps u) (process_of (change_process v f ps) u)
+        both_same (ProcessBecomes script (Written u) (u ≡ w) Posting) (process_of ps u)
+        (process_of (change_process v f ps) u)
         (process_same script (Written u) (u ≡ w) Posting) (process_of-change_other v f keeps ps u d)
   ];
 }
   where
     here : (o : Option Process) → process_of ps v ≡ o
-        → Both (ProcessBecomes script (Written v) (v ≡ w) Posting) (process_of ps v) (process_of (change_process v f ps) v)
+        → Both (ProcessBecomes script (Written v) (v ≡ w) Posting) (process_of ps v)
+        (process_of (change_process v f ps) v)
     here None e =
-        both_none (ProcessBecomes script (Written v) (v ≡ w) Posting) (process_of ps v) (process_of (change_process v f ps) v) e
+        both_none (ProcessBecomes script (Written v) (v ≡ w) Posting) (process_of ps v)
+        (process_of (change_process v f ps) v) e
         (process_of-change_none v f ps e)
     here (Some p) e =
-        both_some (ProcessBecomes script (Written v) (v ≡ w) Posting) (process_of ps v) (process_of (change_process v f ps) v)
+        both_some (ProcessBecomes script (Written v) (v ≡ w) Posting) (process_of ps v)
+        (process_of (change_process v f ps) v)
         p (f p) e
         (process_of-change_same v f keeps ps p e) (becomes p e)
 
@@ -120,7 +125,8 @@ tame_same script Written Exchanged Posting w t s = record {
   objects = objects_same Exchanged w t s.objects;
 }
 
-pub tame_process : (script : Script) (Written : ℕ → Type 0) (Exchanged Posting : Type 0) (w t : ℕ) (s : Win32State) (v : ℕ)
+pub tame_process : (script : Script) (Written : ℕ → Type 0) (Exchanged Posting : Type 0) (w t : ℕ) (s : Win32State)
+    (v : ℕ)
     (f : Process → Process)
     → ((p : Process) → (f p).number ≡ p.number)
     → ((p : Process) → process_of s.processes v ≡ Some p → ProcessBecomes script (Written v) (v ≡ w) Posting p (f p))
@@ -131,7 +137,8 @@ tame_process script Written Exchanged Posting w t s v f keeps becomes = record {
   objects = objects_same Exchanged w t s.objects;
 }
 
-pub tame_object : (script : Script) (Written : ℕ → Type 0) (Exchanged Posting : Type 0) (w t : ℕ) (s : Win32State) (o : ℕ)
+pub tame_object : (script : Script) (Written : ℕ → Type 0) (Exchanged Posting : Type 0) (w t : ℕ) (s : Win32State)
+    (o : ℕ)
     (x y : Object)
     → object_of s.objects o ≡ Some x → ObjectBecomes Exchanged w t x y
     → IsTame script Written Exchanged Posting w t s (with_object s o y)

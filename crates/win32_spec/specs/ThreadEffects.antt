@@ -51,7 +51,8 @@ threads_become script Written Acting Posting p xs alive keeps posted = record {
 }
 
 -- a process whose memory alone changes
-pub memory_becomes : (script : Script) (Written Acting Posting : Type 0) (p : Process) (own : Own) → is_alive p.life ≡ true
+pub memory_becomes : (script : Script) (Written Acting Posting : Type 0) (p : Process) (own : Own)
+    → is_alive p.life ≡ true
     → Written → KeepsLengths p.own own
     → ProcessBecomes script Written Acting Posting p (record p { own = own })
 memory_becomes script Written Acting Posting p own alive written lengths = record {
