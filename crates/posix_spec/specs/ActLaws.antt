@@ -48,7 +48,14 @@ module _ (script : Script) (used : Numbers) (p signal : ℕ) (r : Record) (w : I
 
   Keeps-discarded : Keeps script used p r (discarded signal r)
   Keeps-discarded = record {
-    sound = record { numbers = w.numbers; lives = w.lives; notes = w.notes; signals = signals_without; runs = w.runs; calls = w.calls };
+    sound = record {
+      numbers = w.numbers;
+      lives = w.lives;
+      notes = w.notes;
+      signals = signals_without;
+      runs = w.runs;
+      calls = w.calls;
+    };
     place = record { parent = refl; group = refl; session = refl; death = refl };
   }
 
@@ -59,7 +66,8 @@ module _ (script : Script) (used : Numbers) (p signal : ℕ) (r : Record) (w : I
   not_handled action.Ignore target restart d h = true≢false (sym (ap is_handler h))
   not_handled (action.Handler t b) target restart d h = true≢false (ap is_handler d)
 
-  IsMask-handled : (target : ℕ) (restart : Bool) → action_of r signal ≡ action.Handler target restart → IsMask (only signal)
+  IsMask-handled : (target : ℕ) (restart : Bool) → action_of r signal ≡ action.Handler target restart → IsMask
+      (only signal)
   IsMask-handled target restart h =
       IsMask-only signal
       (λ same. not_handled (action_of r signal) target restart (ap (action_of r) same ∙ w.signals.kill_action) h)
@@ -70,10 +78,12 @@ module _ (script : Script) (used : Numbers) (p signal : ℕ) (r : Record) (w : I
   interrupted_is false = w.runs
 
   room_stays : (b : Bool) → has_frame_room r.image ≡ true → has_frame_room (interrupted_image b r.image) ≡ true
-  room_stays true room = ap (λ n. nat_le (n + 40) (length r.image.stack)) (in_use-with_result script r.image (error_result errno.EINTR) w.runs.dat) ∙ room
+  room_stays true room = ap (λ n. nat_le (n + 40) (length r.image.stack))
+      (in_use-with_result script r.image (error_result errno.EINTR) w.runs.dat) ∙ room
   room_stays false room = room
 
-  Keeps-in_handler : (interrupted : Bool) (target : ℕ) (restart : Bool) → is_running r.life ≡ true → action_of r signal ≡ action.Handler target restart →
+  Keeps-in_handler : (interrupted : Bool) (target : ℕ) (restart : Bool) → is_running r.life ≡ true → action_of r
+      signal ≡ action.Handler target restart →
       has_frame_room r.image ≡ true → Keeps script used p r (in_handler interrupted signal target r)
   Keeps-in_handler interrupted target restart running h room =
       let handling : Record = record (without_signal r signal) { mask = bit_or r.mask (only signal); saved = None } in
@@ -99,9 +109,11 @@ module _ (script : Script) (used : Numbers) (p signal : ℕ) (r : Record) (w : I
         };
       } in
       record {
-        sound = IsSound-ended script used p handling (with_frame (interrupted_image interrupted r.image) (mask_to_return r) target) sound
-          (record { running = running; unsaved = refl })
-          (IsImage-with_frame script (interrupted_image interrupted r.image) (mask_to_return r) target (room_stays interrupted room) (interrupted_is interrupted));
+        sound = IsSound-ended script used p handling
+            (with_frame (interrupted_image interrupted r.image) (mask_to_return r) target) sound
+            (record { running = running; unsaved = refl })
+            (IsImage-with_frame script (interrupted_image interrupted r.image) (mask_to_return r) target
+            (room_stays interrupted room) (interrupted_is interrupted));
         place = record { parent = refl; group = refl; session = refl; death = refl };
       }
 
@@ -112,7 +124,8 @@ module _ (script : Script) (used : Numbers) (p signal : ℕ) (r : Record) (w : I
   running_no_death (Stopped t) e = refl
   running_no_death (Zombie v) e = absurd (true≢false (sym e))
 
-  Keeps-stopped : is_running r.life ≡ true → is_group_call r.call ≡ false → is_stop_signal signal ≡ true → Keeps script used p r (stopped signal r)
+  Keeps-stopped : is_running r.life ≡ true → is_group_call r.call ≡ false → is_stop_signal signal ≡ true → Keeps
+      script used p r (stopped signal r)
   unfolding stopped_by
   Keeps-stopped running outside_group stop = record {
     sound = record {
@@ -166,7 +179,12 @@ module _ (script : Script) (used : Numbers) (p signal : ℕ) (r : Record) (w : I
       let k = Keeps-generated script used p child_signal fewer good in
       record {
         sound = k.sound;
-        place = record { parent = k.place.parent; group = k.place.group; session = k.place.session; death = k.place.death };
+        place = record {
+          parent = k.place.parent;
+          group = k.place.group;
+          session = k.place.session;
+          death = k.place.death;
+        };
       }
 
 stops_default : (a : Action) (d : ByDefault) → stops_by a d ≡ true → d ≡ StopByDefault
@@ -185,7 +203,8 @@ other_default true b e = true≢false (sym e)
 other_default false true e = true≢false (sym e)
 other_default false false e = true≢false (sym e)
 
-stop_by_default : (b : Bool) (rest : ByDefault) → (is_stopping rest ≡ true → ⊥) → (if b then StopByDefault else rest) ≡ StopByDefault → b ≡ true
+stop_by_default : (b : Bool) (rest : ByDefault) → (is_stopping rest ≡ true → ⊥) →
+    (if b then StopByDefault else rest) ≡ StopByDefault → b ≡ true
 unfolding is_stopping
 stop_by_default true rest other e = refl
 stop_by_default false rest other e = absurd (other (ap is_stopping e))
@@ -196,7 +215,8 @@ stop_signal r signal e =
     (stops_default (action_of r signal) (default_of signal) e)
 
 module _ (script : Script) (s new : PosixState) (p : ℕ) (w : IsWellFormed script s) where
-  delivers : (how : Delivery) (signal : ℕ) (r : Record) (a : Action) → record_of s p ≡ Some r → is_running r.life ≡ true → action_of r signal ≡ a →
+  delivers : (how : Delivery) (signal : ℕ) (r : Record) (a : Action) → record_of s p ≡ Some r → is_running
+      r.life ≡ true → action_of r signal ≡ a →
       deliver_by script s p signal how r a ≡ Some new → IsWellFormed script new
   delivers how signal r action.Default is running act found = after_none (IsWellFormed script) new found
   delivers how signal r action.Ignore is running act found = after_none (IsWellFormed script) new found
@@ -204,46 +224,55 @@ module _ (script : Script) (s new : PosixState) (p : ℕ) (w : IsWellFormed scri
       after_if (IsWellFormed script) (has_frame_room r.image && is_delivery (is_interrupted script r restart) how)
       (change_record s p (in_handler (is_interrupted script r restart) signal target)) new
       (λ passed. IsWellFormed-change script s p (in_handler (is_interrupted script r restart) signal target) w
-        (λ old there good. subst (λ (o : Record). Keeps script s.used p o (in_handler (is_interrupted script r restart) signal target o)) (same_record r old (sym is ∙ there))
-          (Keeps-in_handler script s.used p signal r (w.each p r is) (is_interrupted script r restart) target restart running act
-            (first_of (has_frame_room r.image) _ passed)))) found
+      (λ old there good. subst (λ (o : Record). Keeps script s.used p o
+      (in_handler (is_interrupted script r restart) signal target o)) (same_record r old (sym is ∙ there))
+      (Keeps-in_handler script s.used p signal r (w.each p r is) (is_interrupted script r restart) target restart
+      running act
+      (first_of (has_frame_room r.image) _ passed)))) found
 
-  pub keeps-deliver : (signal : ℤ) (how : Delivery) → posix_step script s (event.Deliver p signal how) ≡ Some new → IsWellFormed script new
+  pub keeps-deliver : (signal : ℤ) (how : Delivery) → posix_step script s (event.Deliver p signal how) ≡ Some new →
+      IsWellFormed script new
   unfolding posix_step
   keeps-deliver signal how e =
       after_number (IsWellFormed script) script s new signal _
       (λ n found. after_process (IsWellFormed script) script s new p (deliver_step script s p how n)
-        (λ r is done. after_test (IsWellFormed script) (is_deliverable r n && not (is_group_call r.call)) (deliver_by script s p n how r (action_of r n)) new
-          (λ passed delivered. delivers how n r (action_of r n) is (first_of (is_running r.life) _ (first_of (is_deliverable r n) _ passed)) refl delivered) done) found) e
+      (λ r is done. after_test (IsWellFormed script) (is_deliverable r n && not (is_group_call r.call))
+      (deliver_by script s p n how r (action_of r n)) new
+      (λ passed delivered. delivers how n r (action_of r n) is
+      (first_of (is_running r.life) _ (first_of (is_deliverable r n) _ passed)) refl delivered) done) found) e
 
   pub keeps-discard : (signal : ℤ) → posix_step script s (event.Discard p signal) ≡ Some new → IsWellFormed script new
   unfolding posix_step
   keeps-discard signal e =
       after_number (IsWellFormed script) script s new signal _
       (λ n found. after_process (IsWellFormed script) script s new p (discard_step s p n)
-        (λ r is done. after_if (IsWellFormed script) (is_deliverable r n && ignores r n) (change_record s p (discarded n)) new
-          (λ _. IsWellFormed-change script s p (discarded n) w (λ old there good. Keeps-discarded script s.used p n old good)) done) found) e
+      (λ r is done. after_if (IsWellFormed script) (is_deliverable r n && ignores r n)
+      (change_record s p (discarded n)) new
+      (λ _. IsWellFormed-change script s p (discarded n) w
+      (λ old there good. Keeps-discarded script s.used p n old good)) done) found) e
 
   pub keeps-stop : (signal : ℤ) → posix_step script s (event.Stop p signal) ≡ Some new → IsWellFormed script new
   unfolding posix_step
   keeps-stop signal e =
       after_number (IsWellFormed script) script s new signal _
       (λ n found. after_process (IsWellFormed script) script s new p (stop_step s p n)
-        (λ r is done. after_if (IsWellFormed script) (is_deliverable r n && (not (is_group_call r.call) && stops r n))
-          (change_record (change_record s p (stopped n)) r.parent owed_more) new
-          (λ passed.
-            let running = first_of (is_running r.life) _ (first_of (is_deliverable r n) _ passed) in
-            let rest = second_of (is_deliverable r n) _ passed in
-            let outside_group = negation (is_group_call r.call) (first_of (not (is_group_call r.call)) _ rest) in
-            let stop = stop_signal r n (second_of (not (is_group_call r.call)) _ rest) in
-            IsWellFormed-owed_more script (change_record s p (stopped n)) r.parent
-            (IsWellFormed-change script s p (stopped n) w
-              (λ old there good. subst (λ (o : Record). Keeps script s.used p o (stopped n o)) (same_record r old (sym is ∙ there))
-                (Keeps-stopped script s.used p n r (w.each p r is) running outside_group stop)))) done) found) e
+      (λ r is done. after_if (IsWellFormed script) (is_deliverable r n && (not (is_group_call r.call) && stops r n))
+      (change_record (change_record s p (stopped n)) r.parent owed_more) new
+      (λ passed.
+      let running = first_of (is_running r.life) _ (first_of (is_deliverable r n) _ passed) in
+      let rest = second_of (is_deliverable r n) _ passed in
+      let outside_group = negation (is_group_call r.call) (first_of (not (is_group_call r.call)) _ rest) in
+      let stop = stop_signal r n (second_of (not (is_group_call r.call)) _ rest) in
+      IsWellFormed-owed_more script (change_record s p (stopped n)) r.parent
+      (IsWellFormed-change script s p (stopped n) w
+      (λ old there good. subst (λ (o : Record). Keeps script s.used p o (stopped n o))
+      (same_record r old (sym is ∙ there))
+      (Keeps-stopped script s.used p n r (w.each p r is) running outside_group stop)))) done) found) e
 
   pub keeps-notify : posix_step script s (event.Notify p) ≡ Some new → IsWellFormed script new
   unfolding posix_step
   keeps-notify e =
       after_process (IsWellFormed script) script s new p (notify_step s p)
       (λ r is done. after_if (IsWellFormed script) (nat_lt 0 r.owed) (change_record s p notified) new
-        (λ _. IsWellFormed-change script s p notified w (λ old there good. Keeps-notified script s.used p 0 old good)) done) e
+      (λ _. IsWellFormed-change script s p notified w (λ old there good. Keeps-notified script s.used p 0 old good))
+      done) e

@@ -1,23 +1,23 @@
 -- The results of steps, calls that end, and signals that are sent keep a state well formed.
-use Rattle.std.specs.Prelude.{◌≡◌, ◌≢◌, ℕ, ◌+◌, ◌<◌, ℤ, Bool, true, false, ◌&&◌, ◌||◌, nat_eq, if◌then◌else◌, Option, Some, None, IsTrue, bit_or}
-use Rattle.std.proofs.Common.{refl, sym, ap, subst, ◌∙◌, arith, true≢false}
+use Rattle.std.specs.Prelude.{◌≡◌, ◌≢◌, ℕ, ◌+◌, ℤ, Bool, true, false, nat_eq, if◌then◌else◌, Option, Some, None, bit_or}
+use Rattle.std.proofs.Common.{refl, sym, ap, subst, ◌∙◌, true≢false}
 use Rattle.std.proofs.lemmas.Bool.{cond_both}
 use Rattle.script_spec.specs.declared.script.Script.{Script}
 use Rattle.vm_spec.specs.Image.{with_result}
 use Rattle.posix_spec.specs.Numbers.{for_value}
 use Rattle.posix_spec.specs.Signals.{generate, lost_by, continue_signal}
 use Rattle.posix_spec.specs.State.{Life, Running, Stopped, Zombie, Numbers, Record, PosixState, record_of}
-use Rattle.posix_spec.specs.Pending.{is_running, is_stopped, is_live}
-use Rattle.posix_spec.specs.Records.{settled, with_record, changed_at, change_record}
+use Rattle.posix_spec.specs.Pending.{is_stopped, is_live}
+use Rattle.posix_spec.specs.Records.{settled, changed_at, change_record}
 use Rattle.posix_spec.specs.Waits.{death_to_report}
-use Rattle.posix_spec.specs.Conditions.{next_of, with_results}
-use Rattle.posix_spec.specs.Sending.{with_generated, continued, generated_by_life, generated, owed_more, owed_for, sent}
+use Rattle.posix_spec.specs.Conditions.{with_results}
+use Rattle.posix_spec.specs.Sending.{with_generated, continued, generated_by_life, generated, owed_more}
 use Rattle.posix_spec.specs.DeathSteps.{is_zombie}
-use Rattle.posix_spec.specs.RecordLaws.{each_with_record, no_record}
+use Rattle.posix_spec.specs.RecordLaws.{each_with_record}
 use Rattle.posix_spec.specs.SignalLaws.{IsSignalSet-generate, IsSignalSet-lost_by, IsSignalSet-or}
 use Rattle.posix_spec.specs.ImageLaws.{IsImage-with_result}
-use Rattle.posix_spec.specs.WellFormed.{HasLife, HasSignals, HasNoNotes, HasCall, IsWellFormedRecord, IsWellFormed, is_report}
-use Rattle.posix_spec.specs.KeepLaws.{IsSound, sound_of, KeepsPlace, Keeps, IsWellFormed-change}
+use Rattle.posix_spec.specs.WellFormed.{HasSignals, IsWellFormedRecord, IsWellFormed}
+use Rattle.posix_spec.specs.KeepLaws.{sound_of, Keeps, IsWellFormed-change}
 use Rattle.posix_spec.specs.CallLaws.{IsActing, Keeps-ended, none_some}
 
 -- ---- the result of a step
@@ -27,13 +27,15 @@ module _ (P : PosixState → Type 0) where
   after_none y e = absurd (none_some y e)
 
   pub after_some : (x y : PosixState) → P x → Some x ≡ Some y → P y
-  after_some x y h e = subst P (ap (λ (o : Option PosixState). elim o as (λ _. PosixState) [ None ↦ x | Some z ↦ z ]) e) h
+  after_some x y h e = subst P (ap (λ (o : Option PosixState). elim o as (λ _. PosixState) [ None ↦ x | Some z ↦ z ])
+      e) h
 
   pub after_if : (b : Bool) (x y : PosixState) → (b ≡ true → P x) → (if b then Some x else None) ≡ Some y → P y
   after_if true x y h e = after_some x y (h refl) e
   after_if false x y h e = after_none y e
 
-  pub after_test : (b : Bool) (o : Option PosixState) (y : PosixState) → (b ≡ true → o ≡ Some y → P y) → (if b then o else None) ≡ Some y → P y
+  pub after_test : (b : Bool) (o : Option PosixState) (y : PosixState) → (b ≡ true → o ≡ Some y → P y) →
+      (if b then o else None) ≡ Some y → P y
   after_test true o y h e = h refl e
   after_test false o y h e = after_none y e
 
@@ -64,20 +66,23 @@ Acts s p = (r : Record) → record_of s p ≡ Some r → IsActing r
 
 -- ---- a call ends with its results
 
-pub IsWellFormed-results : (script : Script) (s : PosixState) (p : ℕ) (r0 : ℤ) (r1 : Option ℤ) → IsWellFormed script s → Acts s p →
+pub IsWellFormed-results : (script : Script) (s : PosixState) (p : ℕ) (r0 : ℤ) (r1 : Option ℤ) → IsWellFormed script
+    s → Acts s p →
     IsWellFormed script (change_record s p (with_results r0 r1))
 IsWellFormed-results script s p r0 r1 w acts =
     IsWellFormed-change script s p (with_results r0 r1) w
     (λ old is good. Keeps-ended script s.used p old (with_result old.image r0 r1) good (acts old is)
-      (IsImage-with_result script old.image r0 r1 good.runs))
+    (IsImage-with_result script old.image r0 r1 good.runs))
 
 -- ---- a signal is generated
 
 module _ (script : Script) (used : Numbers) (p signal : ℕ) (r : Record) (w : IsWellFormedRecord script used p r) where
-  signals_generated : HasSignals (generate r.pending signal) (bit_or r.lost (lost_by r.pending signal)) r.mask r.saved r.actions
+  signals_generated : HasSignals (generate r.pending signal) (bit_or r.lost (lost_by r.pending signal)) r.mask r.saved
+      r.actions
   signals_generated = record {
     pending_signals = IsSignalSet-generate r.pending signal;
-    lost_signals = IsSignalSet-or r.lost (lost_by r.pending signal) w.signals.lost_signals (IsSignalSet-lost_by r.pending signal w.signals.pending_signals);
+    lost_signals = IsSignalSet-or r.lost (lost_by r.pending signal) w.signals.lost_signals
+        (IsSignalSet-lost_by r.pending signal w.signals.pending_signals);
     is_mask = w.signals.is_mask;
     saved_mask = w.signals.saved_mask;
     action_count = w.signals.action_count;
@@ -86,7 +91,10 @@ module _ (script : Script) (used : Numbers) (p signal : ℕ) (r : Record) (w : I
   }
 
   Keeps-same : Keeps script used p r r
-  Keeps-same = record { sound = sound_of w; place = record { parent = refl; group = refl; session = refl; death = refl } }
+  Keeps-same = record {
+    sound = sound_of w;
+    place = record { parent = refl; group = refl; session = refl; death = refl };
+  }
 
   Keeps-with_generated : (is_zombie r.life ≡ true → ⊥) → Keeps script used p r (with_generated signal r)
   Keeps-with_generated lives = record {
@@ -126,7 +134,8 @@ module _ (script : Script) (used : Numbers) (p signal : ℕ) (r : Record) (w : I
   Keeps-by_life : (life : Life) → r.life ≡ life → Keeps script used p r (generated_by_life life signal r)
   Keeps-by_life Running is = Keeps-with_generated (λ dead. true≢false (sym dead ∙ ap is_zombie is))
   Keeps-by_life (Stopped t) is =
-      cond_both (nat_eq signal continue_signal) (continued (with_generated signal r)) (with_generated signal r) (Keeps script used p r)
+      cond_both (nat_eq signal continue_signal) (continued (with_generated signal r)) (with_generated signal r)
+      (Keeps script used p r)
       (λ _. Keeps-continued t is) (λ _. Keeps-with_generated (λ dead. true≢false (sym dead ∙ ap is_zombie is)))
   Keeps-by_life (Zombie v) is = Keeps-same
 

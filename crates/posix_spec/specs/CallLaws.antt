@@ -1,7 +1,7 @@
 -- What is known of a process that has an event of its own, and of one whose call has ended.
-use Rattle.std.specs.Prelude.{◌≡◌, ℕ, ◌<◌, Bool, true, false, ◌&&◌, not, nat_lt, if◌then◌else◌, List, length, slice_get, Option, Some, None, is_some, IsTrue}
+use Rattle.std.specs.Prelude.{◌≡◌, ℕ, Bool, true, false, ◌&&◌, not, nat_lt, if◌then◌else◌, List, length, slice_get, Option, Some, None, is_some}
 use Rattle.std.specs.Option.{unwrap_or}
-use Rattle.std.proofs.Common.{refl, sym, ap, subst, ◌∙◌, arith, true≢false, inl, inr}
+use Rattle.std.proofs.Common.{refl, sym, ap, ◌∙◌, arith, true≢false, inl, inr}
 use Rattle.std.proofs.lemmas.Bool.{cases_Bool, or_parts}
 use Rattle.w32_base.specs.declared.instr.Instr.{Instr}
 use Rattle.w32_base.specs.declared.instr.Instr.TheVariants as instr
@@ -9,15 +9,15 @@ use Rattle.script_spec.specs.declared.script.Script.{Script}
 use Rattle.vm_spec.specs.Image.{Image, place_of, in_use}
 use Rattle.vm_spec.specs.Faults.{instr_faults, faults_at, faults}
 use Rattle.vm_spec.specs.Step.{Upcoming, LocalInstruction, CallInstruction, ImageFault, is_local, upcoming_at, upcoming}
-use Rattle.posix_spec.specs.State.{Life, Running, Stopped, Zombie, Numbers, GroupCall, CallInProgress, NoCall, WaitCall, ForGroup, Record, PosixState, record_of}
+use Rattle.posix_spec.specs.State.{Life, Running, Stopped, Zombie, Numbers, GroupCall, CallInProgress, NoCall, WaitCall, ForGroup, Record}
 use Rattle.posix_spec.specs.Pending.{is_running, is_live}
-use Rattle.posix_spec.specs.Waits.{looked_at, death_to_report}
+use Rattle.posix_spec.specs.Waits.{looked_at}
 use Rattle.posix_spec.specs.GroupCalls.{in_progress}
 use Rattle.posix_spec.specs.Conditions.{next_of, call_of, is_group_call, waits_for_signal, may_go_on, may_act, own_call, group_step_call, call_ended}
 use Rattle.posix_spec.specs.DeathSteps.{is_zombie}
 use Rattle.posix_spec.specs.SignalLaws.{first_of, second_of}
-use Rattle.posix_spec.specs.WellFormed.{HasNumbers, HasSignals, HasNoNotes, IsImage, HasCall, IsSuspended, IsWellFormedRecord, is_suspend_next}
-use Rattle.posix_spec.specs.KeepLaws.{IsSound, sound_of, KeepsPlace, Keeps}
+use Rattle.posix_spec.specs.WellFormed.{IsImage, HasCall, IsSuspended, IsWellFormedRecord, is_suspend_next}
+use Rattle.posix_spec.specs.KeepLaws.{IsSound, sound_of, Keeps}
 
 -- ---- cases that differ
 
@@ -84,25 +84,30 @@ next_is (CallInstruction j) i e = ap CallInstruction (ap (λ o. unwrap_or o j) e
 next_is ImageFault i e = absurd (none_some i e)
 
 -- where one of two answers is given, the test has passed
-pub only_if : {A : Type 0} (b : Bool) (o : Option A) (x : A) → (if b then o else None) ≡ Some x → (b ≡ true) × (o ≡ Some x)
+pub only_if : {A : Type 0} (b : Bool) (o : Option A) (x : A) → (if b then o else None) ≡ Some x →
+    (b ≡ true) × (o ≡ Some x)
 only_if true o x e = (refl, e)
 only_if false o x e = absurd (none_some x e)
 
 pub own_call-is : (script : Script) (r : Record) (i : Instr) → own_call script r ≡ Some i → IsCalling script r i
 own_call-is script r i e =
     let found = only_if (may_act script r) (call_of (next_of script r)) i e in
-    let go = first_of (may_go_on r) (not (is_group_call r.call) && not (r.blocked && waits_for_signal (next_of script r))) found.0 in
-    let rest = second_of (may_go_on r) (not (is_group_call r.call) && not (r.blocked && waits_for_signal (next_of script r))) found.0 in
+    let go = first_of (may_go_on r) (not (is_group_call r.call) && not
+    (r.blocked && waits_for_signal (next_of script r))) found.0 in
+    let rest = second_of (may_go_on r) (not (is_group_call r.call) && not
+    (r.blocked && waits_for_signal (next_of script r))) found.0 in
     record {
       running = first_of (is_running r.life) (not r.due) go;
       not_due = negation r.due (second_of (is_running r.life) (not r.due) go);
-      outside_group = negation (is_group_call r.call) (first_of (not (is_group_call r.call)) (not (r.blocked && waits_for_signal (next_of script r))) rest);
+      outside_group = negation (is_group_call r.call)
+          (first_of (not (is_group_call r.call)) (not (r.blocked && waits_for_signal (next_of script r))) rest);
       awake = negation (r.blocked && waits_for_signal (next_of script r))
-        (second_of (not (is_group_call r.call)) (not (r.blocked && waits_for_signal (next_of script r))) rest);
+          (second_of (not (is_group_call r.call)) (not (r.blocked && waits_for_signal (next_of script r))) rest);
       next = next_is (next_of script r) i found.1;
     }
 
-pub group_step_call-is : (script : Script) (r : Record) (i : Instr) → group_step_call script r ≡ Some i → IsStepping script r i
+pub group_step_call-is : (script : Script) (r : Record) (i : Instr) → group_step_call script r ≡ Some i → IsStepping
+    script r i
 group_step_call-is script r i e =
     let found = only_if (may_go_on r) (call_of (next_of script r)) i e in
     record {
@@ -125,24 +130,29 @@ in_suspend : (blocked : Bool) (u : Upcoming) → IsSuspended u blocked → (bloc
 in_suspend true u h = suspend_waits u h.is_next
 in_suspend false u h = h.is_blocked
 
-pub IsActing-calling : (script : Script) (used : Numbers) (p : ℕ) (r : Record) (i : Instr) → IsWellFormedRecord script used p r →
+pub IsActing-calling : (script : Script) (used : Numbers) (p : ℕ) (r : Record) (i : Instr) → IsWellFormedRecord script
+    used p r →
     IsCalling script r i → IsActing r
 IsActing-calling script used p r i w c = record {
   running = c.running;
   unsaved = elim r.saved as (λ o. r.saved ≡ o → o ≡ None) [
     | None ↦ λ _. refl
-    | Some m ↦ λ is. absurd (true≢false (sym (in_suspend r.blocked (next_of script r) (w.calls.suspended m is (running_is_live r.life c.running))) ∙ c.awake))
+    | Some m ↦ λ is. absurd (true≢false (sym
+        (in_suspend r.blocked (next_of script r) (w.calls.suspended m is (running_is_live r.life c.running))) ∙
+        c.awake))
   ] refl;
 }
 
 -- in a call for a group the next instruction is no suspend
-pub IsActing-stepping : (script : Script) (used : Numbers) (p : ℕ) (r : Record) (i : Instr) → IsWellFormedRecord script used p r →
+pub IsActing-stepping : (script : Script) (used : Numbers) (p : ℕ) (r : Record) (i : Instr) → IsWellFormedRecord
+    script used p r →
     IsStepping script r i → is_suspend_next (CallInstruction i) ≡ false → IsActing r
 IsActing-stepping script used p r i w c other = record {
   running = c.running;
   unsaved = elim r.saved as (λ o. r.saved ≡ o → o ≡ None) [
     | None ↦ λ _. refl
-    | Some m ↦ λ is. absurd (true≢false (sym (w.calls.suspended m is (running_is_live r.life c.running)).is_next ∙ ap is_suspend_next c.next ∙ other))
+    | Some m ↦ λ is. absurd (true≢false (sym (w.calls.suspended m is (running_is_live r.life c.running)).is_next ∙ ap
+        is_suspend_next c.next ∙ other))
   ] refl;
 }
 
@@ -177,7 +187,8 @@ IsSound-ended script used p r image w a h = record {
   calls = HasCall-none _ used _ _ r.saved a.unsaved;
 }
 
-pub Keeps-ended : (script : Script) (used : Numbers) (p : ℕ) (r : Record) (image : Image) → IsWellFormedRecord script used p r →
+pub Keeps-ended : (script : Script) (used : Numbers) (p : ℕ) (r : Record) (image : Image) → IsWellFormedRecord script
+    used p r →
     IsActing r → IsImage script image → Keeps script used p r (call_ended (record r { image = image }))
 Keeps-ended script used p r image w a h = record {
   sound = IsSound-ended script used p r image (sound_of w) a h;
@@ -194,18 +205,23 @@ pub record IsNextCall (code : List Instr) (image : Image) (i : Instr) : Type 0 w
 some_call : (o : Option Instr) (i : Instr) → upcoming_at o ≡ CallInstruction i → o ≡ Some i
 some_call None i e = absurd (none_some i (ap call_of e))
 some_call (Some j) i e =
-    elim (is_local j) as (λ b. (if b then LocalInstruction else CallInstruction j) ≡ CallInstruction i → Some j ≡ Some i) [
+    elim (is_local j) as (λ b. (if b then LocalInstruction else CallInstruction j) ≡ CallInstruction i → Some j ≡ Some
+    i) [
       | true ↦ λ local. absurd (none_some i (ap call_of local))
       | false ↦ λ call. ap call_of call
     ] e
 
-pub next_call : (code : List Instr) (image : Image) (i : Instr) → upcoming code image ≡ CallInstruction i → IsNextCall code image i
+pub next_call : (code : List Instr) (image : Image) (i : Instr) → upcoming code image ≡ CallInstruction i → IsNextCall
+    code image i
 unfolding upcoming
 next_call code image i e =
     elim (cases_Bool (faults code image)) [
-      | inl fault ↦ absurd (none_some i (ap call_of (sym (ap (λ b. if b then ImageFault else upcoming_at (slice_get code (place_of image))) fault) ∙ e)))
+      | inl fault ↦ absurd (none_some i (ap call_of
+          (sym (ap (λ b. if b then ImageFault else upcoming_at (slice_get code (place_of image))) fault) ∙ e)))
       | inr fine ↦
-          let at = some_call (slice_get code (place_of image)) i (sym (ap (λ b. if b then ImageFault else upcoming_at (slice_get code (place_of image))) fine) ∙ e) in
-          let parts = or_parts (nat_lt (length image.stack) (in_use image)) (faults_at (slice_get code (place_of image)) image) fine in
+          let at = some_call (slice_get code (place_of image)) i
+          (sym (ap (λ b. if b then ImageFault else upcoming_at (slice_get code (place_of image))) fine) ∙ e) in
+          let parts = or_parts (nat_lt (length image.stack) (in_use image))
+          (faults_at (slice_get code (place_of image)) image) fine in
           record { at = at; carried_out = ap (λ o. faults_at o image) (sym at) ∙ parts.1 }
     ]

@@ -1,16 +1,14 @@
 -- How many entries pass a test, after one is put in its place or taken away.
-use Rattle.std.specs.Prelude.{◌≡◌, ◌≢◌, ℕ, zero, suc, ◌+◌, ◌<◌, ◌≤◌, Bool, true, false, cond, ◌&&◌, not, List, [], ◌∷◌, length, Option, Some, None, T}
-use Rattle.std.specs.List.{filter}
+use Rattle.std.specs.Prelude.{◌≡◌, ℕ, ◌+◌, ◌<◌, ◌≤◌, Bool, true, false, cond, List, [], ◌∷◌, length, Some, T}
 use Rattle.std.specs.Ordering.{nat_cmp, is_eq}
-use Rattle.std.specs.declared.cmp.Ordering.{Ordering}
 use Rattle.std.specs.declared.cmp.Ordering.TheVariants.{Less, Equal, Greater}
-use Rattle.std.specs.FinMap.Entries.{find, put, where_key, is_sorted, below_all, by_order}
+use Rattle.std.specs.FinMap.Entries.{find, put, where_key, is_sorted, by_order}
 use Rattle.std.specs.Cmp.{ranked}
-use Rattle.std.proofs.Common.{refl, sym, ap, subst, ◌∙◌, arith, true≢false}
+use Rattle.std.proofs.Common.{refl, sym, ap, ◌∙◌, arith}
 use Rattle.posix_spec.specs.State.{Record}
 use Rattle.posix_spec.specs.Records.{numbers_where}
 use Rattle.posix_spec.specs.RecordLaws.{same_record, no_record}
-use Rattle.posix_spec.specs.EntryLaws.{found_above, same_number, both_first, both_second}
+use Rattle.posix_spec.specs.EntryLaws.{found_above, both_first, both_second}
 
 abbrev pub one_if : Bool → ℕ
 one_if b = cond b 1 0
@@ -20,13 +18,18 @@ module _ (test : ℕ → Record → Bool) where
   counted es = length (numbers_where test es)
 
   pub counted_first : (e : ℕ × Record) (es : List (ℕ × Record)) → counted (e ∷ es) ≡ one_if (test e.0 e.1) + counted es
-  counted_first e es = elim (test e.0 e.1) as (λ b. length (cond b (e.0 ∷ numbers_where test es) (numbers_where test es)) ≡ one_if b + counted es) [ true ↦ omega arith | false ↦ omega arith ]
+  counted_first e es = elim (test e.0 e.1)
+      as (λ b. length (cond b (e.0 ∷ numbers_where test es) (numbers_where test es)) ≡ one_if b + counted es)
+      [ true ↦ omega arith | false ↦ omega arith ]
 
   -- put in its place: at most one more
-  pub counted_put : (k : ℕ) (v : Record) (es : List (ℕ × Record)) → counted (put nat_cmp k v es) ≤ one_if (test k v) + counted es
+  pub counted_put : (k : ℕ) (v : Record) (es : List (ℕ × Record)) → counted (put nat_cmp k v es) ≤ one_if
+      (test k v) + counted es
   counted_put k v [] = omega (arith, counted_first (k, v) [])
   counted_put k v (e ∷ es) =
-      elim (nat_cmp k e.0) as (λ r. r ≡ nat_cmp k e.0 → counted (by_order r ((k, v) ∷ e ∷ es) ((e.0, v) ∷ es) (e ∷ put nat_cmp k v es)) ≤ one_if (test k v) + counted (e ∷ es)) [
+      elim (nat_cmp k e.0) as (λ r. r ≡ nat_cmp k e.0 → counted
+      (by_order r ((k, v) ∷ e ∷ es) ((e.0, v) ∷ es) (e ∷ put nat_cmp k v es)) ≤ one_if (test k v) + counted
+      (e ∷ es)) [
         | Less ↦ λ _. omega (arith, counted_first (k, v) (e ∷ es))
         | Equal ↦ λ t. let same = ap (λ n. one_if (test n v)) (ranked k e.0 Equal t) in
             omega (arith, counted_first (e.0, v) es, counted_first e es, same)
@@ -39,14 +42,19 @@ module _ (test : ℕ → Record → Bool) where
   counted_over k old v [] sorted is alike = absurd (no_record old is)
   counted_over k old v (e ∷ es) sorted is alike =
       elim (nat_cmp k e.0) as (λ r. r ≡ nat_cmp k e.0 → cond (is_eq r) (Some e.1) (find nat_cmp k es) ≡ Some old →
-        counted (by_order r ((k, v) ∷ e ∷ es) ((e.0, v) ∷ es) (e ∷ put nat_cmp k v es)) ≡ counted (e ∷ es)) [
+      counted (by_order r ((k, v) ∷ e ∷ es) ((e.0, v) ∷ es) (e ∷ put nat_cmp k v es)) ≡ counted (e ∷ es)) [
         | Less ↦ λ t there. let low : k < e.0 = ranked k e.0 Less t in
             let high = found_above k e.0 old es (both_first _ _ sorted) there in absurd (omega arith)
         | Equal ↦ λ _ here. let same : one_if (test e.0 v) ≡ one_if (test e.0 e.1) =
             ap one_if (alike e.0 ∙ ap (test e.0) (sym (same_record e.1 old here))) in
             omega (arith, counted_first (e.0, v) es, counted_first e es, same)
-        | Greater ↦ λ _ there. omega
-            (arith, counted_first e (put nat_cmp k v es), counted_first e es, counted_over k old v es (both_second _ _ sorted) there alike)
+        | Greater ↦ λ _ there. omega (
+          arith,
+          counted_first e (put nat_cmp k v es),
+          counted_first e es,
+          counted_over k old v es
+              (both_second _ _ sorted) there alike,
+        )
       ] refl is
 
   -- where some are taken away: no more

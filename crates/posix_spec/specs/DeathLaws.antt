@@ -38,7 +38,8 @@ this_is v None e = absurd (true≢false (sym e))
 this_is v (Some n) e = ap Some (sym (eqb-true v n e))
 
 exit_small : (u : Upcoming) (image : Image) (v : ℕ) → exit_status u image ≡ Some v → v < 512
-exit_small (CallInstruction (instr.Exit x)) image v e = omega (arith, ap (λ o. unwrap_or o 0) e, low_byte_small (value_of image x))
+exit_small (CallInstruction (instr.Exit x)) image v e = omega
+    (arith, ap (λ o. unwrap_or o 0) e, low_byte_small (value_of image x))
 exit_small _ image v e = absurd (none_some v e)
 
 contains_by : (set s : ℕ) (b : Bool) → not (nat_eq (bit_and set (cond b (only s) 0)) 0) ≡ true → b ≡ true
@@ -50,19 +51,24 @@ only_by s true e = refl
 only_by s false e = ap (λ b. cond b (2 ^ (s - 1)) 0) e
 
 pub contains_signal : (set s : ℕ) → contains set s ≡ true → is_signal s ≡ true
-contains_signal set s e = contains_by set s (is_signal s) (ap (λ x. not (nat_eq (bit_and set x) 0)) (sym (only_by s (is_signal s) refl)) ∙ e)
+contains_signal set s e = contains_by set s (is_signal s)
+    (ap (λ x. not (nat_eq (bit_and set x) 0)) (sym (only_by s (is_signal s) refl)) ∙ e)
 
 signal_small : (r : Record) (v : ℕ) → is_signal_death r v ≡ true → v < 512
 signal_small r v e =
     let above = ltb-true 256 v (first_of (nat_lt 256 v) _ e) in
-    let range = contains_signal (open_signals r) (v - 256) (first_of (contains (open_signals r) (v - 256)) _ (second_of (nat_lt 256 v) _ e)) in
+    let range = contains_signal (open_signals r) (v - 256)
+    (first_of (contains (open_signals r) (v - 256)) _ (second_of (nat_lt 256 v) _ e)) in
     omega (arith, above, leb-true (v - 256) 31 (second_of (nat_le 1 (v - 256)) (nat_le (v - 256) 31) range))
 
 death_small : (script : Script) (r : Record) (v : ℕ) (cause : Death) → may_die script r v cause ≡ true → v < 512
-death_small script r v death.Exit e = exit_small (next_of script r) r.image v (this_is v (exit_status (next_of script r) r.image) (second_of (may_go_on r) _ e))
+death_small script r v death.Exit e = exit_small (next_of script r) r.image v
+    (this_is v (exit_status (next_of script r) r.image) (second_of (may_go_on r) _ e))
 death_small script r v death.Signal e = signal_small r v e
-death_small script r v death.Fault e = omega (arith, eqb-true v 267 (first_of (nat_eq v fault_status) (has_faulted script r) e))
-death_small script r v (death.World n) e = omega (arith, eqb-true v 265 (first_of (nat_eq v outside_status) (is_live r.life) e))
+death_small script r v death.Fault e = omega
+    (arith, eqb-true v 267 (first_of (nat_eq v fault_status) (has_faulted script r) e))
+death_small script r v (death.World n) e = omega
+    (arith, eqb-true v 265 (first_of (nat_eq v outside_status) (is_live r.life) e))
 
 -- ---- a zombie
 
@@ -71,7 +77,8 @@ zombie_status Running = 0
 zombie_status (Stopped t) = 0
 zombie_status (Zombie v) = v
 
-module _ (script : Script) (used : Numbers) (p v : ℕ) (r : Record) (w : IsWellFormedRecord script used p r) (small : v < 512) where
+module _ (script : Script) (used : Numbers) (p v : ℕ) (r : Record) (w : IsWellFormedRecord script used p r)
+    (small : v < 512) where
   IsSound-dead : IsSound script used p (dead v r)
   unfolding zombie_status
   IsSound-dead = record {
@@ -100,7 +107,8 @@ module _ (script : Script) (used : Numbers) (p v : ℕ) (r : Record) (w : IsWell
     };
   }
 
-module _ (script : Script) (s : PosixState) (p v : ℕ) (old : Record) (w : IsWellFormed script s) (is : record_of s p ≡ Some old) (small : v < 512) where
+module _ (script : Script) (s : PosixState) (p v : ℕ) (old : Record) (w : IsWellFormed script s)
+    (is : record_of s p ≡ Some old) (small : v < 512) where
   first_dead : (b : Bool) → nat_eq p 2 ≡ b → (c : Bool) → nat_eq 2 p ≡ c →
       IsFirstStatus (cond c (Some (settled (dead v old))) (record_of s 2)) (cond b (Some v) s.first_status)
   first_dead true same true e = refl
@@ -112,11 +120,14 @@ module _ (script : Script) (s : PosixState) (p v : ℕ) (old : Record) (w : IsWe
       IsWellFormed script (record (with_record s p (dead v old)) { first_status = status })
   with_first status first = record {
     each = each_with_record (IsWellFormedRecord script s.used) s p (dead v old)
-      (IsWellFormedRecord-settled script s.used p (dead v old) (IsSound-dead script s.used p v old (w.each p old is) small)) (λ q r apart there. w.each q r there);
+        (IsWellFormedRecord-settled script s.used p (dead v old)
+        (IsSound-dead script s.used p v old (w.each p old is) small)) (λ q r apart there. w.each q r there);
     numbers = w.numbers;
     first_number = w.first_number;
-    sessions = let h = HasSessions-with_record script s p old (dead v old) w is refl refl in record { same = h.same; leader = h.leader };
-    few_children = λ q. let same = children-with_record s p old (dead v old) is refl q in let few = w.few_children q in omega arith;
+    sessions = let h = HasSessions-with_record script s p old (dead v old) w is refl refl in
+        record { same = h.same; leader = h.leader };
+    few_children = λ q. let same = children-with_record s p old (dead v old) is refl q in let few = w.few_children
+        q in omega arith;
     is_terminal = w.is_terminal;
     foreground = w.foreground;
     console_call = w.console_call;
@@ -124,27 +135,34 @@ module _ (script : Script) (s : PosixState) (p v : ℕ) (old : Record) (w : IsWe
   }
 
   dead_by : (b : Bool) → nat_eq p 2 ≡ b →
-      IsWellFormed script (if b then record (with_record s p (dead v old)) { first_status = Some v } else with_record s p (dead v old))
-  dead_by true same = with_first (Some v) (subst (λ o. IsFirstStatus o (Some v)) (sym (record_of-with_record s p (dead v old) 2)) (first_dead true same (nat_eq 2 p) refl))
-  dead_by false apart = with_first s.first_status (subst (λ o. IsFirstStatus o s.first_status) (sym (record_of-with_record s p (dead v old) 2)) (first_dead false apart (nat_eq 2 p) refl))
+      IsWellFormed script (if b then record (with_record s p (dead v old)) { first_status = Some v } else with_record
+      s p (dead v old))
+  dead_by true same = with_first (Some v) (subst (λ o. IsFirstStatus o (Some v))
+      (sym (record_of-with_record s p (dead v old) 2)) (first_dead true same (nat_eq 2 p) refl))
+  dead_by false apart = with_first s.first_status
+      (subst (λ o. IsFirstStatus o s.first_status) (sym (record_of-with_record s p (dead v old) 2))
+      (first_dead false apart (nat_eq 2 p) refl))
 
   IsWellFormed-dead : IsWellFormed script (with_status p v (change_record s p (dead v)))
   IsWellFormed-dead =
-      subst (λ t. IsWellFormed script (with_status p v t)) (sym (record_of-change_record s p (dead v) old is)) (dead_by (nat_eq p 2) refl)
+      subst (λ t. IsWellFormed script (with_status p v t)) (sym (record_of-change_record s p (dead v) old is))
+      (dead_by (nat_eq p 2) refl)
 
 module _ (script : Script) (s new : PosixState) (p : ℕ) (w : IsWellFormed script s) where
-  pub keeps-die : (v : ℤ) (cause : Death) → posix_step script s (event.Die p v cause) ≡ Some new → IsWellFormed script new
+  pub keeps-die : (v : ℤ) (cause : Death) → posix_step script s (event.Die p v cause) ≡ Some new → IsWellFormed script
+      new
   unfolding posix_step
   keeps-die v cause e =
       after_number (IsWellFormed script) script s new v _
       (λ n found. after_process (IsWellFormed script) script s new p (die_step script s p cause n)
-        (λ r is done. after_if (IsWellFormed script) (may_die script r n cause) (died s p n r.parent) new
-          (λ passed. IsWellFormed-owed_more script (with_status p n (change_record s p (dead n))) r.parent
-            (IsWellFormed-dead script s p n r w is (death_small script r n cause passed))) done) found) e
+      (λ r is done. after_if (IsWellFormed script) (may_die script r n cause) (died s p n r.parent) new
+      (λ passed. IsWellFormed-owed_more script (with_status p n (change_record s p (dead n))) r.parent
+      (IsWellFormed-dead script s p n r w is (death_small script r n cause passed))) done) found) e
 
   pub keeps-collect : posix_step script s (event.Collect p) ≡ Some new → IsWellFormed script new
   unfolding posix_step
   keeps-collect e =
       after_process (IsWellFormed script) script s new p (collect_step s p)
-      (λ r is done. after_if (IsWellFormed script) (is_zombie r.life && not (is_live_at (record_of s r.parent))) (without_record s p) new
-        (λ passed. IsWellFormed-without script s p r w is (first_of (is_zombie r.life) _ passed)) done) e
+      (λ r is done. after_if (IsWellFormed script) (is_zombie r.life && not (is_live_at (record_of s r.parent)))
+      (without_record s p) new
+      (λ passed. IsWellFormed-without script s p r w is (first_of (is_zombie r.life) _ passed)) done) e

@@ -1,15 +1,13 @@
 -- Lists of numbered entries in the order of their numbers: what is found, and which entries pass a test.
-use Rattle.std.specs.Prelude.{◌≡◌, ◌≢◌, ℕ, suc, ◌+◌, ◌<◌, ◌≤◌, Bool, true, false, cond, ◌&&◌, ◌||◌, not, List, [], ◌∷◌, length, Option, Some, None, is_some, T}
-use Rattle.std.specs.Option.{unwrap_or}
+use Rattle.std.specs.Prelude.{◌≡◌, ◌≢◌, ℕ, ◌<◌, Bool, true, false, cond, ◌&&◌, ◌||◌, List, [], ◌∷◌, Some, T}
 use Rattle.std.specs.List.{list_any, list_all}
 use Rattle.std.specs.Ordering.{nat_cmp, eq_by_cmp, is_lt, is_eq}
 use Rattle.std.specs.declared.cmp.Ordering.{Ordering}
 use Rattle.std.specs.declared.cmp.Ordering.TheVariants.{Less, Equal, Greater}
-use Rattle.std.specs.FinMap.Entries.{find, put, is_sorted, below_all, by_order}
+use Rattle.std.specs.FinMap.Entries.{find, is_sorted, below_all}
 use Rattle.std.specs.Cmp.{ranked}
 use Rattle.std.proofs.Common.{refl, sym, ap, subst, ◌∙◌, arith, true≢false}
 use Rattle.posix_spec.specs.State.{Record}
-use Rattle.posix_spec.specs.Records.{numbers_where}
 use Rattle.posix_spec.specs.RecordLaws.{same_record, no_record}
 
 -- ---- the order of numbers
@@ -69,10 +67,12 @@ both false b p q = p
 -- ---- what is found
 
 module _ (q : ℕ) where
-  pub found_above : (x : ℕ) (r : Record) (es : List (ℕ × Record)) → T (below_all nat_cmp x es) → find nat_cmp q es ≡ Some r → x < q
+  pub found_above : (x : ℕ) (r : Record) (es : List (ℕ × Record)) → T (below_all nat_cmp x es) → find nat_cmp q
+      es ≡ Some r → x < q
   found_above x r [] below e = absurd (no_record r e)
   found_above x r (e ∷ es) below is =
-      elim (eq_by_cmp nat_cmp q e.0) as (λ b. eq_by_cmp nat_cmp q e.0 ≡ b → cond b (Some e.1) (find nat_cmp q es) ≡ Some r → x < q) [
+      elim (eq_by_cmp nat_cmp q e.0) as (λ b. eq_by_cmp nat_cmp q e.0 ≡ b → cond b (Some e.1)
+      (find nat_cmp q es) ≡ Some r → x < q) [
         | true ↦ λ t _. subst (λ n. x < n) (sym (same_number q e.0 t)) (less x e.0 (both_first _ _ below))
         | false ↦ λ _ later. found_above x r es (both_second _ _ below) later
       ] refl is
@@ -85,9 +85,11 @@ pub record Passes (test : ℕ → Record → Bool) (es : List (ℕ × Record)) :
   pub passes : test number process ≡ true
 
 module _ (test : ℕ → Record → Bool) where
-  later : (e : ℕ × Record) (es : List (ℕ × Record)) → T (below_all nat_cmp e.0 es) → Passes test es → Passes test (e ∷ es)
+  later : (e : ℕ × Record) (es : List (ℕ × Record)) → T (below_all nat_cmp e.0 es) → Passes test es → Passes test
+      (e ∷ es)
   later e es below found =
-      let apart : found.number ≢ e.0 = λ same. let l = found_above found.number e.0 found.process es below found.is in absurd (omega arith) in
+      let apart : found.number ≢ e.0 = λ same. let l = found_above found.number e.0 found.process es below found.is in
+      absurd (omega arith) in
       record {
         number = found.number;
         process = found.process;
@@ -96,16 +98,18 @@ module _ (test : ℕ → Record → Bool) where
       }
 
   -- where a test passes on some entry, it passes on one that is found
-  pub passing : (es : List (ℕ × Record)) → T (is_sorted nat_cmp es) → list_any (λ e. test e.0 e.1) es ≡ true → Passes test es
+  pub passing : (es : List (ℕ × Record)) → T (is_sorted nat_cmp es) → list_any (λ e. test e.0 e.1) es ≡ true → Passes
+      test es
   passing [] sorted one = absurd (true≢false (sym one))
   passing (e ∷ es) sorted one =
-      elim (test e.0 e.1) as (λ b. test e.0 e.1 ≡ b → (b || list_any (λ e. test e.0 e.1) es) ≡ true → Passes test (e ∷ es)) [
+      elim (test e.0 e.1) as (λ b. test e.0 e.1 ≡ b → (b || list_any (λ e. test e.0 e.1) es) ≡ true → Passes test
+      (e ∷ es)) [
         | true ↦ λ p _. record {
-            number = e.0;
-            process = e.1;
-            is = ap (λ b. cond b (Some e.1) (find nat_cmp e.0 es)) (tied e.0);
-            passes = p;
-          }
+          number = e.0;
+          process = e.1;
+          is = ap (λ b. cond b (Some e.1) (find nat_cmp e.0 es)) (tied e.0);
+          passes = p;
+        }
         | false ↦ λ _ rest. later e es (both_first _ _ sorted) (passing es (both_second _ _ sorted) rest)
       ] refl one
 
@@ -118,7 +122,8 @@ module _ (test : ℕ → Record → Bool) where
       list_any (λ e. test e.0 e.1) es ≡ true
   passing_found q r [] is p = absurd (no_record r is)
   passing_found q r (e ∷ es) is p =
-      elim (eq_by_cmp nat_cmp q e.0) as (λ b. eq_by_cmp nat_cmp q e.0 ≡ b → cond b (Some e.1) (find nat_cmp q es) ≡ Some r → (test e.0 e.1 || list_any (λ e. test e.0 e.1) es) ≡ true) [
+      elim (eq_by_cmp nat_cmp q e.0) as (λ b. eq_by_cmp nat_cmp q e.0 ≡ b → cond b (Some e.1)
+      (find nat_cmp q es) ≡ Some r → (test e.0 e.1 || list_any (λ e. test e.0 e.1) es) ≡ true) [
         | true ↦ λ t here. ap (λ b. b || list_any (λ e. test e.0 e.1) es)
             (ap (λ n. test n e.1) (sym (same_number q e.0 t)) ∙ ap (test q) (same_record e.1 r here) ∙ p)
         | false ↦ λ _ there. ap (λ b. test e.0 e.1 || b) (passing_found q r es there p) ∙ any_of (test e.0 e.1)
@@ -129,7 +134,8 @@ module _ (test : ℕ → Record → Bool) where
       find nat_cmp q es ≡ Some r → test q r ≡ true
   each_found q r [] all is = absurd (no_record r is)
   each_found q r (e ∷ es) all is =
-      elim (eq_by_cmp nat_cmp q e.0) as (λ b. eq_by_cmp nat_cmp q e.0 ≡ b → cond b (Some e.1) (find nat_cmp q es) ≡ Some r → test q r ≡ true) [
+      elim (eq_by_cmp nat_cmp q e.0) as (λ b. eq_by_cmp nat_cmp q e.0 ≡ b → cond b (Some e.1)
+      (find nat_cmp q es) ≡ Some r → test q r ≡ true) [
         | true ↦ λ t here. ap (test q) (sym (same_record e.1 r here)) ∙ ap (λ n. test n e.1) (same_number q e.0 t)
             ∙ first_of (test e.0 e.1) (list_all (λ e. test e.0 e.1) es) all
         | false ↦ λ _ there. each_found q r es (second_of (test e.0 e.1) (list_all (λ e. test e.0 e.1) es) all) there
@@ -142,5 +148,5 @@ module _ (test : ℕ → Record → Bool) where
       both (test e.0 e.1) (list_all (λ e. test e.0 e.1) es)
       (each e.0 e.1 (ap (λ b. cond b (Some e.1) (find nat_cmp e.0 es)) (tied e.0)))
       (each_of_found es (both_second _ _ sorted) (λ q r is.
-        let apart : q ≢ e.0 = λ same. let l = found_above q e.0 r es (both_first _ _ sorted) is in absurd (omega arith) in
-        each q r (ap (λ b. cond b (Some e.1) (find nat_cmp q es)) (not_tied q e.0 apart) ∙ is)))
+      let apart : q ≢ e.0 = λ same. let l = found_above q e.0 r es (both_first _ _ sorted) is in absurd (omega arith) in
+      each q r (ap (λ b. cond b (Some e.1) (find nat_cmp q es)) (not_tied q e.0 apart) ∙ is)))

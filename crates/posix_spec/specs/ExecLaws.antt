@@ -33,15 +33,19 @@ record IsNumbered (k : ℕ) (programs : List Program) (found : NumberedProgram) 
   from : k ≤ found.number
   is : slice_get programs (found.number - k) ≡ Some found.program
 
-later_is : (k : ℕ) (program : Program) (rest : List Program) (found : NumberedProgram) → IsNumbered (suc k) rest found → IsNumbered k (program ∷ rest) found
+later_is : (k : ℕ) (program : Program) (rest : List Program) (found : NumberedProgram) → IsNumbered (suc k) rest
+    found → IsNumbered k (program ∷ rest) found
 later_is k program rest found h =
     let step : found.number - k ≡ suc (found.number - suc k) = omega (arith, h.from) in
     record { from = omega (arith, h.from); is = ap (slice_get (program ∷ rest)) step ∙ h.is }
 
-program_is : (k : ℕ) (programs : List Program) (name : List ℕ) (found : NumberedProgram) → program_from k programs name ≡ Some found → IsNumbered k programs found
+program_is : (k : ℕ) (programs : List Program) (name : List ℕ) (found : NumberedProgram) → program_from k programs
+    name ≡ Some found → IsNumbered k programs found
 program_is k [] name found e = absurd (none_some found e)
 program_is k (program ∷ rest) name found e =
-    elim (is_same program.name name) as (λ b. (if b then Some (record { number = k; program = program }) else program_from (suc k) rest name) ≡ Some found → IsNumbered k (program ∷ rest) found) [
+    elim (is_same program.name name) as (λ b.
+    (if b then Some (record { number = k; program = program }) else program_from (suc k) rest name) ≡ Some found →
+    IsNumbered k (program ∷ rest) found) [
       | true ↦ λ here.
           let first : NumberedProgram = record { number = k; program = program } in
           let none : k - k ≡ 0 = omega arith in
@@ -50,27 +54,32 @@ program_is k (program ∷ rest) name found e =
       | false ↦ λ there. later_is k program rest found (program_is (suc k) rest name found there)
     ] e
 
-new_is : (script : Script) (ranges : HasRanges script) (name : List ℕ) (found : NumberedProgram) → program_named script name ≡ Some found →
+new_is : (script : Script) (ranges : HasRanges script) (name : List ℕ) (found : NumberedProgram) → program_named
+    script name ≡ Some found →
     IsImage script (new_image found.number found.program)
 new_is script ranges name found e =
     let h = program_is 0 script.setup.programs name found e in
     let same : found.number - 0 ≡ found.number = omega arith in
-    let is : slice_get script.setup.programs found.number ≡ Some found.program = ap (slice_get script.setup.programs) (sym same) ∙ h.is in
+    let is : slice_get script.setup.programs found.number ≡ Some found.program = ap (slice_get script.setup.programs)
+    (sym same) ∙ h.is in
     IsImage-new script found.number found.program
     (omega (arith, slice_get_within script.setup.programs found.number found.program is, ranges.few_programs)) is
 
 -- ---- actions after an exec
 
 action_mapped : (actions : List Action) (k : ℕ) →
-    unwrap_or (slice_get (map action_after_exec actions) k) action.Default ≡ action_after_exec (unwrap_or (slice_get actions k) action.Default)
+    unwrap_or (slice_get (map action_after_exec actions) k) action.Default ≡ action_after_exec
+    (unwrap_or (slice_get actions k) action.Default)
 action_mapped [] k = refl
 action_mapped (a ∷ rest) zero = refl
 action_mapped (a ∷ rest) (suc k) = action_mapped rest k
 
-default_mapped : (actions : List Action) (s : ℕ) → action_in actions s ≡ action.Default → action_in (map action_after_exec actions) s ≡ action.Default
+default_mapped : (actions : List Action) (s : ℕ) → action_in actions s ≡ action.Default → action_in
+    (map action_after_exec actions) s ≡ action.Default
 default_mapped actions s is = action_mapped actions (s - 1) ∙ ap action_after_exec is
 
-module _ (script : Script) (used : Numbers) (p : ℕ) (image : Image) (r : Record) (w : IsWellFormedRecord script used p r) (a : IsActing r) (h : IsImage script image) where
+module _ (script : Script) (used : Numbers) (p : ℕ) (image : Image) (r : Record)
+    (w : IsWellFormedRecord script used p r) (a : IsActing r) (h : IsImage script image) where
   Keeps-replaced : Keeps script used p r (replaced image r)
   Keeps-replaced =
       let changed : Record = record r { execd = true; actions = map action_after_exec r.actions } in
@@ -96,14 +105,17 @@ module _ (script : Script) (used : Numbers) (p : ℕ) (image : Image) (r : Recor
       }
 
 module _ (script : Script) (s new : PosixState) (p : ℕ) (w : IsWellFormed script s) (ranges : HasRanges script) where
-  replaces : (name : List ℕ) (o : Option NumberedProgram) → program_named script name ≡ o → Acts s p → exec_to s p o ≡ Some new → IsWellFormed script new
+  replaces : (name : List ℕ) (o : Option NumberedProgram) → program_named script name ≡ o → Acts s p → exec_to s p
+      o ≡ Some new → IsWellFormed script new
   replaces name None is acts found = after_none (IsWellFormed script) new found
   replaces name (Some program) is acts found =
       after_some (IsWellFormed script) (change_record s p (replaced (new_image program.number program.program))) new
       (IsWellFormed-change script s p (replaced (new_image program.number program.program)) w
-        (λ old there good. Keeps-replaced script s.used p (new_image program.number program.program) old good (acts old there) (new_is script ranges name program is))) found
+      (λ old there good. Keeps-replaced script s.used p (new_image program.number program.program) old good
+      (acts old there) (new_is script ranges name program is))) found
 
-  executes : (name : List ℕ) (r : Record) (i : Instr) → Acts s p → exec_step script s p name r i ≡ Some new → IsWellFormed script new
+  executes : (name : List ℕ) (r : Record) (i : Instr) → Acts s p → exec_step script s p name r i ≡ Some new →
+      IsWellFormed script new
   executes name r (instr.Exec wanted) acts found =
       after_test (IsWellFormed script) (is_same wanted name) (exec_to s p (program_named script name)) new
       (λ _ to. replaces name (program_named script name) refl acts to) found

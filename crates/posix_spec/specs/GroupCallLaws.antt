@@ -27,14 +27,17 @@ use Rattle.posix_spec.specs.CallLaws.{none_some}
 pub AreUsed-empty : (used : Numbers) → AreUsed used set.empty
 AreUsed-empty used n is = absurd (true≢false (sym is ∙ set.contains-empty nat_cmp n))
 
-pub AreUsed-insert : (used numbers : Numbers) (q : ℕ) → AreUsed used numbers → IsUsed used q → AreUsed used (set.insert numbers q)
+pub AreUsed-insert : (used numbers : Numbers) (q : ℕ) → AreUsed used numbers → IsUsed used q → AreUsed used
+    (set.insert numbers q)
 AreUsed-insert used numbers q all one n is =
-    elim (eq_by_cmp nat_cmp n q) as (λ b. eq_by_cmp nat_cmp n q ≡ b → (b || set.contains numbers n) ≡ true → IsUsed used n) [
+    elim (eq_by_cmp nat_cmp n q) as (λ b. eq_by_cmp nat_cmp n q ≡ b → (b || set.contains numbers n) ≡ true → IsUsed
+    used n) [
       | true ↦ λ same _. subst (IsUsed used) (sym (same_number n q same)) one
       | false ↦ λ _ there. all n there
     ] refl (sym (set.contains-insert nat_cmp_total numbers q n) ∙ is)
 
-used-changed_at : (s : PosixState) (p : ℕ) (change : Record → Record) (o : Option Record) → (changed_at s p change o).used ≡ s.used
+used-changed_at : (s : PosixState) (p : ℕ) (change : Record → Record) (o : Option Record) →
+    (changed_at s p change o).used ≡ s.used
 used-changed_at s p change None = refl
 used-changed_at s p change (Some r) = refl
 
@@ -44,12 +47,14 @@ used-change_record s p change = used-changed_at s p change (record_of s p)
 used-owed_for : (signal : ℕ) (o : Option Record) (s : PosixState) → (owed_for signal o s).used ≡ s.used
 used-owed_for signal None s = refl
 used-owed_for signal (Some r) s =
-    cond_both (nat_eq signal continue_signal && is_stopped r.life) (change_record s r.parent owed_more) s (λ t. t.used ≡ s.used)
+    cond_both (nat_eq signal continue_signal && is_stopped r.life) (change_record s r.parent owed_more) s
+    (λ t. t.used ≡ s.used)
     (λ _. used-change_record s r.parent owed_more) (λ _. refl)
 
 pub used-sent : (s : PosixState) (q signal : ℕ) → (sent s q signal).used ≡ s.used
 used-sent s q signal =
-    used-owed_for signal (record_of s q) (change_record s q (generated signal)) ∙ used-change_record s q (generated signal)
+    used-owed_for signal (record_of s q) (change_record s q (generated signal)) ∙ used-change_record s q
+    (generated signal)
 
 -- ---- where a call for a group comes from
 
@@ -69,7 +74,8 @@ within (pos k) n is =
     ] refl is
 within (negsuc k) n is = absurd (none_some n is)
 
-begun_part : (used : Numbers) (group : Option ℕ) (z : ℤ) (o : Option ℕ) (call : GroupCall) → natural_within 31 z ≡ o → begun_for group o ≡ Some call → IsPartCall used call
+begun_part : (used : Numbers) (group : Option ℕ) (z : ℤ) (o : Option ℕ) (call : GroupCall) → natural_within 31 z ≡ o →
+    begun_for group o ≡ Some call → IsPartCall used call
 begun_part used None z o call is e = absurd (none_some call e)
 begun_part used (Some g) z None call is e = absurd (none_some call e)
 begun_part used (Some g) z (Some n) call is e =
@@ -97,10 +103,15 @@ module _ (script : Script) (used : Numbers) (p : ℕ) (r : Record) (w : IsWellFo
   in_progress_part call e = part_of (w.calls.group_call call (in_progress_is r.call call e)).steps
 
   -- a member's step is one of a call that goes through a group, and its call is sound but for its group
-  pub member_part : (i : Instr) (call : GroupCall) → member_call r i ≡ Some call → (is_group_next (CallInstruction i) ≡ true) × IsPartCall used call
-  member_part (instr.Kill target signal) call e =
-      (refl, progress_part (begun_for (target_group r.group (value_of r.image target)) (killing_signal (value_of r.image signal))) call
-        (begun_part used (target_group r.group (value_of r.image target)) (value_of r.image signal) _ call refl) r.call refl (only_first _ call e))
+  pub member_part : (i : Instr) (call : GroupCall) → member_call r i ≡ Some call →
+      (is_group_next (CallInstruction i) ≡ true) × IsPartCall used call
+  member_part (instr.Kill target signal) call e = (
+    refl,
+    progress_part (begun_for (target_group r.group (value_of r.image target))
+        (killing_signal (value_of r.image signal))) call
+        (begun_part used (target_group r.group (value_of r.image target)) (value_of r.image signal) _ call refl)
+        r.call refl (only_first _ call e),
+  )
   member_part (instr.TcSet v) call e = (refl, in_progress_part call e)
   member_part (instr.TtyFlags v) call e = (refl, in_progress_part call e)
   member_part (instr.Read address count) call e = (refl, in_progress_part call e)

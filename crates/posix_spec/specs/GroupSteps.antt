@@ -55,7 +55,7 @@ in_group g r = record r { group = g }
 abbrev pub setpgid_step : PosixState → ℕ → ℕ → ℕ → Record → Instr → Option PosixState
 setpgid_step s p q g r (instr.SetPgid process group) =
     if is_move p q g (natural_of (value_of r.image process)) (natural_of (value_of r.image group))
-       && is_allowed (setpgid_check s p r (value_of r.image process) (value_of r.image group))
+    && is_allowed (setpgid_check s p r (value_of r.image process) (value_of r.image group))
     then Some (answered (change_record s q (in_group g)) p (pos 0))
     else None
 setpgid_step s p q g r _ = None

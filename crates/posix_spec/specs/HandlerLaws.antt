@@ -26,7 +26,8 @@ use Rattle.posix_spec.specs.SentLaws.{after_call, after_number}
 
 -- ---- suspend
 
-module _ (script : Script) (used : Numbers) (p m : ℕ) (v : Operand) (r : Record) (w : IsWellFormedRecord script used p r)
+module _ (script : Script) (used : Numbers) (p m : ℕ) (v : Operand) (r : Record)
+    (w : IsWellFormedRecord script used p r)
     (c : IsCalling script r (instr.Suspend v)) (k : IsMask m) where
   Keeps-suspended : Keeps script used p r (suspended m r)
   Keeps-suspended = record {
@@ -61,7 +62,8 @@ framed script r c =
     let n = next_call (code_of script r.image) r.image instr.Return c.next in
     le-leb 40 (in_use r.image) (ltb-false (in_use r.image) 40 n.carried_out)
 
-module _ (script : Script) (used : Numbers) (p : ℕ) (r : Record) (w : IsWellFormedRecord script used p r) (c : IsCalling script r instr.Return) where
+module _ (script : Script) (used : Numbers) (p : ℕ) (r : Record) (w : IsWellFormedRecord script used p r)
+    (c : IsCalling script r instr.Return) where
   Keeps-returned : Keeps script used p r (returned r)
   Keeps-returned =
       let a = IsActing-calling script used p r instr.Return w c in
@@ -84,35 +86,39 @@ module _ (script : Script) (used : Numbers) (p : ℕ) (r : Record) (w : IsWellFo
       } in
       record {
         sound = IsSound-ended script used p masked (without_frame r.image) sound
-          (record { running = a.running; unsaved = a.unsaved })
-          (IsImage-without_frame script r.image (framed script r c) w.runs);
+            (record { running = a.running; unsaved = a.unsaved })
+            (IsImage-without_frame script r.image (framed script r c) w.runs);
         place = record { parent = refl; group = refl; session = refl; death = refl };
       }
 
 module _ (script : Script) (s new : PosixState) (p : ℕ) (w : IsWellFormed script s) where
-  suspends : (m : ℕ) (r : Record) (i : Instr) → record_of s p ≡ Some r → IsCalling script r i → suspend_step s p m r i ≡ Some new → IsWellFormed script new
+  suspends : (m : ℕ) (r : Record) (i : Instr) → record_of s p ≡ Some r → IsCalling script r i → suspend_step s p m r
+      i ≡ Some new → IsWellFormed script new
   suspends m r (instr.Suspend v) is c found =
       after_if (IsWellFormed script) (nat_eq m (named_mask (value_of r.image v))) (change_record s p (suspended m)) new
       (λ same. IsWellFormed-change script s p (suspended m) w
-        (λ old there good. Keeps-suspended script s.used p m v old good
-          (subst (λ o. IsCalling script o (instr.Suspend v)) (same_record r old (sym is ∙ there)) c)
-          (subst IsMask (sym (eqb-true m (named_mask (value_of r.image v)) same)) (IsMask-clean_mask _)))) found
+      (λ old there good. Keeps-suspended script s.used p m v old good
+      (subst (λ o. IsCalling script o (instr.Suspend v)) (same_record r old (sym is ∙ there)) c)
+      (subst IsMask (sym (eqb-true m (named_mask (value_of r.image v)) same)) (IsMask-clean_mask _)))) found
   suspends m r _ is c found = after_none (IsWellFormed script) new found
 
   pub keeps-suspend : (m : ℤ) → posix_step script s (event.Suspend p m) ≡ Some new → IsWellFormed script new
   unfolding posix_step
   keeps-suspend m e =
       after_number (IsWellFormed script) script s new m _
-      (λ n found. after_call (IsWellFormed script) script s new p (suspend_step s p n) (λ r i is c done. suspends n r i is c done) found) e
+      (λ n found. after_call (IsWellFormed script) script s new p (suspend_step s p n)
+      (λ r i is c done. suspends n r i is c done) found) e
 
-  returns : (r : Record) (i : Instr) → record_of s p ≡ Some r → IsCalling script r i → return_step s p r i ≡ Some new → IsWellFormed script new
+  returns : (r : Record) (i : Instr) → record_of s p ≡ Some r → IsCalling script r i → return_step s p r i ≡ Some
+      new → IsWellFormed script new
   returns r instr.Return is c found =
       after_some (IsWellFormed script) (change_record s p returned) new
       (IsWellFormed-change script s p returned w
-        (λ old there good. Keeps-returned script s.used p old good
-          (subst (λ o. IsCalling script o instr.Return) (same_record r old (sym is ∙ there)) c))) found
+      (λ old there good. Keeps-returned script s.used p old good
+      (subst (λ o. IsCalling script o instr.Return) (same_record r old (sym is ∙ there)) c))) found
   returns r _ is c found = after_none (IsWellFormed script) new found
 
   pub keeps-return : posix_step script s (event.Return p) ≡ Some new → IsWellFormed script new
   unfolding posix_step
-  keeps-return e = after_call (IsWellFormed script) script s new p (return_step s p) (λ r i is c done. returns r i is c done) e
+  keeps-return e = after_call (IsWellFormed script) script s new p (return_step s p)
+      (λ r i is c done. returns r i is c done) e

@@ -22,8 +22,16 @@ pub record IsSound (script : Script) (used : Numbers) (p : ℕ) (r : Record) : T
   pub runs : IsImage script r.image
   pub calls : HasCall (next_of script r) used (is_live r.life) r.saved r.call r.blocked r.due
 
-pub sound_of : {script : Script} {used : Numbers} {p : ℕ} {r : Record} → IsWellFormedRecord script used p r → IsSound script used p r
-sound_of w = record { numbers = w.numbers; lives = w.lives; notes = w.notes; signals = w.signals; runs = w.runs; calls = w.calls }
+pub sound_of : {script : Script} {used : Numbers} {p : ℕ} {r : Record} → IsWellFormedRecord script used p r → IsSound
+    script used p r
+sound_of w = record {
+  numbers = w.numbers;
+  lives = w.lives;
+  notes = w.notes;
+  signals = w.signals;
+  runs = w.runs;
+  calls = w.calls;
+}
 
 not_due_and : (due b : Bool) → due ≡ false → (due && b) ≡ false
 not_due_and true b e = absurd (true≢false e)
@@ -80,26 +88,29 @@ record Was (s : PosixState) (q : ℕ) (r : Record) : Type 0 where
   group : r.group ≡ before.group
   session : r.session ≡ before.session
 
-module _ (script : Script) (s : PosixState) (p : ℕ) (old new : Record) (w : IsWellFormed script s) (is : record_of s p ≡ Some old)
+module _ (script : Script) (s : PosixState) (p : ℕ) (old new : Record) (w : IsWellFormed script s)
+    (is : record_of s p ≡ Some old)
     (group : new.group ≡ old.group) (session : new.session ≡ old.session) where
   was : (q : ℕ) (r : Record) → record_of (with_record s p new) q ≡ Some r → Was s q r
   was = each_with_record (Was s) s p new
-    (record { before = old; is = is; group = group; session = session })
-    (λ q r apart there. record { before = r; is = there; group = refl; session = refl })
+      (record { before = old; is = is; group = group; session = session })
+      (λ q r apart there. record { before = r; is = there; group = refl; session = refl })
 
   pub HasSessions-with_record : HasSessions (with_record s p new)
   HasSessions-with_record = record {
     same = λ m n a b at_m at_n together.
-      let x = was m a at_m in let y = was n b at_n in
-      x.session ∙ w.sessions.same m n x.before y.before x.is y.is (sym x.group ∙ together ∙ y.group) ∙ sym y.session;
+        let x = was m a at_m in let y = was n b at_n in
+        x.session ∙ w.sessions.same m n x.before y.before x.is y.is (sym x.group ∙ together ∙ y.group) ∙ sym y.session;
     leader = λ m a b at_m at_g.
-      let x = was m a at_m in let y = was a.group b at_g in
-      x.session ∙ w.sessions.leader m x.before y.before x.is (ap (record_of s) (sym x.group) ∙ y.is) ∙ sym y.session;
+        let x = was m a at_m in let y = was a.group b at_g in
+        x.session ∙ w.sessions.leader m x.before y.before x.is (ap (record_of s) (sym x.group) ∙ y.is) ∙ sym y.session;
   }
 
 -- what holds of the sessions is all that another group or session of the process may break
-module _ (script : Script) (s : PosixState) (p : ℕ) (old new : Record) (w : IsWellFormed script s) (is : record_of s p ≡ Some old)
-    (sound : IsSound script s.used p new) (sessions : HasSessions (with_record s p new)) (parent : new.parent ≡ old.parent)
+module _ (script : Script) (s : PosixState) (p : ℕ) (old new : Record) (w : IsWellFormed script s)
+    (is : record_of s p ≡ Some old)
+    (sound : IsSound script s.used p new) (sessions : HasSessions (with_record s p new))
+    (parent : new.parent ≡ old.parent)
     (death : death_to_report new.life ≡ death_to_report old.life) where
   first_by : (b : Bool) → nat_eq 2 p ≡ b → IsFirstStatus (cond b (Some (settled new)) (record_of s 2)) s.first_status
   first_by true same =
@@ -110,30 +121,35 @@ module _ (script : Script) (s : PosixState) (p : ℕ) (old new : Record) (w : Is
   pub IsWellFormed-with_record : IsWellFormed script (with_record s p new)
   IsWellFormed-with_record = record {
     each = each_with_record (IsWellFormedRecord script s.used) s p new
-      (IsWellFormedRecord-settled script s.used p new sound) (λ q r apart there. w.each q r there);
+        (IsWellFormedRecord-settled script s.used p new sound) (λ q r apart there. w.each q r there);
     numbers = w.numbers;
     first_number = w.first_number;
     sessions = sessions;
-    few_children = λ q. let same = children-with_record s p old new is parent q in let few = w.few_children q in omega arith;
+    few_children = λ q. let same = children-with_record s p old new is parent q in let few = w.few_children q in omega
+        arith;
     is_terminal = w.is_terminal;
     foreground = w.foreground;
     console_call = w.console_call;
-    first = subst (λ o. IsFirstStatus o s.first_status) (sym (record_of-with_record s p new 2)) (first_by (nat_eq 2 p) refl);
+    first = subst (λ o. IsFirstStatus o s.first_status) (sym (record_of-with_record s p new 2))
+        (first_by (nat_eq 2 p) refl);
   }
 
-with_kept : (script : Script) (s : PosixState) (p : ℕ) (old new : Record) → IsWellFormed script s → record_of s p ≡ Some old → Keeps script s.used p old new →
+with_kept : (script : Script) (s : PosixState) (p : ℕ) (old new : Record) → IsWellFormed script s → record_of s
+    p ≡ Some old → Keeps script s.used p old new →
     IsWellFormed script (with_record s p new)
 with_kept script s p old new w is k =
     IsWellFormed-with_record script s p old new w is k.sound
     (HasSessions-with_record script s p old new w is k.place.group k.place.session) k.place.parent k.place.death
 
 module _ (script : Script) (s : PosixState) (p : ℕ) (change : Record → Record) (w : IsWellFormed script s) where
-  changed_kept : ((old : Record) → record_of s p ≡ Some old → IsWellFormedRecord script s.used p old → Keeps script s.used p old (change old)) →
+  changed_kept : ((old : Record) → record_of s p ≡ Some old → IsWellFormedRecord script s.used p old → Keeps script
+      s.used p old (change old)) →
       (o : Option Record) → record_of s p ≡ o → IsWellFormed script (changed_at s p change o)
   changed_kept keeps None is = w
   changed_kept keeps (Some old) is = with_kept script s p old (change old) w is (keeps old is (w.each p old is))
 
   -- a process is changed, if there is one
-  pub IsWellFormed-change : ((old : Record) → record_of s p ≡ Some old → IsWellFormedRecord script s.used p old → Keeps script s.used p old (change old)) →
+  pub IsWellFormed-change : ((old : Record) → record_of s p ≡ Some old → IsWellFormedRecord script s.used p old →
+      Keeps script s.used p old (change old)) →
       IsWellFormed script (change_record s p change)
   IsWellFormed-change keeps = changed_kept keeps (record_of s p) refl

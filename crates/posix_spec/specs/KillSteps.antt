@@ -46,7 +46,7 @@ killed s (Some signal) Invalid = s
 abbrev pub kill_step : PosixState → ℕ → ℤ → ℤ → Answer → Record → Instr → Option PosixState
 kill_step s p q signal answer r (instr.Kill target sent_signal) =
     if is_same_number q (value_of r.image target) && (is_same_number signal (value_of r.image sent_signal)
-       && is_answer (kill_answer s (killing_signal signal) (target_of q)) answer)
+    && is_answer (kill_answer s (killing_signal signal) (target_of q)) answer)
     then Some (answered (killed s (killing_signal signal) (target_of q)) p (answer_result answer))
     else None
 kill_step s p q signal answer r _ = None

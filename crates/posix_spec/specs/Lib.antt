@@ -50,8 +50,12 @@ pub mod ReadLaws
 pub mod RunLaws
 pub mod ConsoleLaws
 pub mod DeathLaws
-pub mod FamilyLaws
+pub mod GroupLaws
+pub mod SessionLaws
 pub mod ForkLaws
 pub mod ExecLaws
 pub mod OpeningLaws
 pub mod StepLaws
+pub mod SetLaws
+pub mod LeastLaws
+pub mod NumberLaws

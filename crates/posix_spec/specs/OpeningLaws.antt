@@ -34,23 +34,27 @@ at_most_one : (b : Bool) → one_if b ≤ 1
 at_most_one true = omega arith
 at_most_one false = omega arith
 
-first_is_image : (script : Script) (o : Option Program) → slice_get script.setup.programs 0 ≡ o → HasRanges script → IsImage script (first_image o)
+first_is_image : (script : Script) (o : Option Program) → slice_get script.setup.programs 0 ≡ o → HasRanges script →
+    IsImage script (first_image o)
 first_is_image script None is ranges =
     absurd (no_program script.setup.programs is ranges.some_program)
 first_is_image script (Some program) is ranges = IsImage-new script 0 program (omega arith) is
 
 -- the numbers that are used: 2 alone
 one_used : IsUsed (set.insert set.empty 2) 2
-one_used = set.contains-insert nat_cmp_total set.empty 2 2 ∙ ap (λ b. b || set.contains {R = nat_cmp} set.empty 2) (tied 2)
+one_used = set.contains-insert nat_cmp_total set.empty 2 2 ∙ ap (λ b. b || set.contains {R = nat_cmp} set.empty 2)
+    (tied 2)
 
 used_is : (n : ℕ) → IsUsed (set.insert set.empty 2) n → n ≡ 2
 used_is n used =
-    elim (eq_by_cmp nat_cmp n 2) as (λ b. eq_by_cmp nat_cmp n 2 ≡ b → (b || set.contains {R = nat_cmp} set.empty n) ≡ true → n ≡ 2) [
+    elim (eq_by_cmp nat_cmp n 2) as (λ b. eq_by_cmp nat_cmp n 2 ≡ b →
+    (b || set.contains {R = nat_cmp} set.empty n) ≡ true → n ≡ 2) [
       | true ↦ λ same _. same_number n 2 same
       | false ↦ λ _ there. absurd (true≢false (sym there ∙ set.contains-empty nat_cmp n))
     ] refl (sym (set.contains-insert nat_cmp_total set.empty 2 n) ∙ used)
 
-IsSound-opening : (script : Script) (image : Image) → IsImage script image → IsSound script (set.insert set.empty 2) 2 (opening_record image)
+IsSound-opening : (script : Script) (image : Image) → IsImage script image → IsSound script (set.insert set.empty 2) 2
+    (opening_record image)
 unfolding opening_record
 IsSound-opening script image h = record {
   numbers = record {
@@ -106,21 +110,26 @@ no_more test (e ∷ es) = omega (arith, counted_first test e es, no_more test es
 no_child : (q : ℕ) → length (children without_process q) ≤ 0
 unfolding without_process
 no_child q =
-    omega (arith, no_more (λ c r. nat_eq r.parent q) (map.entries {X = Record} {R = nat_cmp} map.empty),
-      sym (map.len-entries {X = Record} {R = nat_cmp} map.empty) ∙ map.len-empty nat_cmp Record)
+    omega (
+      arith,
+      no_more (λ c r. nat_eq r.parent q) (map.entries {X = Record} {R = nat_cmp} map.empty),
+      sym (map.len-entries {X = Record} {R = nat_cmp} map.empty) ∙ map.len-empty nat_cmp Record,
+    )
 
 module _ (script : Script) (image : Image) (ranges : HasRanges script) (h : IsImage script image) where
   sole : (n : ℕ) (r : Record) → record_of (opening image) n ≡ Some r → (n ≡ 2) × (r.group ≡ 2) × (r.session ≡ 2)
   unfolding without_process opening_record
   sole = each_with_record (λ n r. (n ≡ 2) × (r.group ≡ 2) × (r.session ≡ 2)) without_process 2 (opening_record image)
-    (refl, refl, refl) (λ n r apart there. absurd (no_record r (sym (nobody n) ∙ there)))
+      (refl, refl, refl) (λ n r apart there. absurd (no_record r (sym (nobody n) ∙ there)))
 
   pub IsWellFormed-opening : IsWellFormed script (opening image)
   unfolding without_process opening_record
   IsWellFormed-opening = record {
-    each = each_with_record (IsWellFormedRecord script (set.insert set.empty 2)) without_process 2 (opening_record image)
-      (IsWellFormedRecord-settled script (set.insert set.empty 2) 2 (opening_record image) (IsSound-opening script image h))
-      (λ q r apart there. absurd (no_record r (sym (nobody q) ∙ there)));
+    each = each_with_record (IsWellFormedRecord script (set.insert set.empty 2)) without_process 2
+        (opening_record image)
+        (IsWellFormedRecord-settled script (set.insert set.empty 2) 2 (opening_record image)
+        (IsSound-opening script image h))
+        (λ q r apart there. absurd (no_record r (sym (nobody q) ∙ there)));
     numbers = λ n used. let same = used_is n used in (omega arith, omega (arith, ranges.some_row));
     first_number = one_used;
     sessions = record {
@@ -128,15 +137,17 @@ module _ (script : Script) (image : Image) (ranges : HasRanges script) (h : IsIm
       leader = λ m a b at_m at_g. (sole m a at_m).2 ∙ sym (sole a.group b at_g).2;
     };
     few_children = λ q.
-      let new = children-with_new without_process 2 (opening_record image) q in
-      omega (arith, new, no_child q, at_most_one (nat_eq 1 q));
+        let new = children-with_new without_process 2 (opening_record image) q in
+        omega (arith, new, no_child q, at_most_one (nat_eq 1 q));
     is_terminal = opening_is_terminal;
     foreground = one_used;
     console_call = λ call is. absurd (none_some call is);
-    first = subst (λ o. IsFirstStatus o None) (sym (record_of-with_record without_process 2 (opening_record image) 2)) refl;
+    first = subst (λ o. IsFirstStatus o None) (sym (record_of-with_record without_process 2 (opening_record image) 2))
+        refl;
   }
 
 -- the state in which a run of the script begins is well formed
 pub IsWellFormed-opening_of : (script : Script) → HasRanges script → IsWellFormed script (opening_of script)
 IsWellFormed-opening_of script ranges =
-    IsWellFormed-opening script (first_image (slice_get script.setup.programs 0)) ranges (first_is_image script (slice_get script.setup.programs 0) refl ranges)
+    IsWellFormed-opening script (first_image (slice_get script.setup.programs 0)) ranges
+    (first_is_image script (slice_get script.setup.programs 0) refl ranges)

@@ -1,5 +1,5 @@
 -- The ranges of a script, which its own type keeps, as far as the POSIX machine needs them.
-use Rattle.std.specs.Prelude.{ℕ, ◌≤◌, List, length, IsTrue}
+use Rattle.std.specs.Prelude.{◌≤◌, List, length, IsTrue}
 use Rattle.std.specs.List.{All}
 use Rattle.w32_base.specs.declared.instr.Instr.{Instr}
 use Rattle.w32_base.specs.declared.setup.Program.{Program}

@@ -37,7 +37,8 @@ module _ (P : ℕ → Record → Type 0) where
       ((q : ℕ) (r : Record) → q ≢ p → record_of s q ≡ Some r → P q r) →
       (q : ℕ) (r : Record) → record_of (with_record s p new) q ≡ Some r → P q r
   each_with_record s p new here there q r e =
-      at_one_of p q (settled new) r (record_of s q) (nat_eq q p) refl (sym (record_of-with_record s p new q) ∙ e) here (there q r)
+      at_one_of p q (settled new) r (record_of s q) (nat_eq q p) refl (sym (record_of-with_record s p new q) ∙ e) here
+      (there q r)
 
   each_without : (p q : ℕ) (r : Record) (rest : Option Record) (b : Bool) → nat_eq q p ≡ b →
       cond b None rest ≡ Some r → (q ≢ p → rest ≡ Some r → P q r) → P q r
@@ -50,6 +51,7 @@ module _ (P : ℕ → Record → Type 0) where
   each_without_record s p there q r e =
       each_without p q r (record_of s q) (nat_eq q p) refl (sym (record_of-without_record s p q) ∙ e) (there q r)
 
-pub record_of-change_record : (s : PosixState) (p : ℕ) (change : Record → Record) (old : Record) → record_of s p ≡ Some old →
+pub record_of-change_record : (s : PosixState) (p : ℕ) (change : Record → Record) (old : Record) → record_of s
+    p ≡ Some old →
     change_record s p change ≡ with_record s p (change old)
 record_of-change_record s p change old is = ap (changed_at s p change) is

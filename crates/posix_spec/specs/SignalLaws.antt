@@ -1,5 +1,5 @@
 -- Signal sets stay sets of signals, and masks stay without KILL and STOP.
-use Rattle.std.specs.Prelude.{◌≡◌, ◌≢◌, ℕ, ◌+◌, ◌-◌, ◌*◌, ◌^◌, ◌<◌, ◌≤◌, min, max, Bool, true, false, not, ◌&&◌, nat_eq, nat_le, bit_and, bit_or}
+use Rattle.std.specs.Prelude.{◌≡◌, ◌≢◌, ℕ, ◌-◌, ◌*◌, ◌^◌, ◌≤◌, Bool, true, false, not, ◌&&◌, nat_eq, nat_le, bit_and, bit_or}
 use Rattle.std.specs.Int.{bit_at}
 use Rattle.std.proofs.Common.{refl, sym, ap, ◌∙◌, arith, eqb-true, true≢false, leb-true}
 use Rattle.std.proofs.lemmas.Bool.{cond_both}
@@ -33,7 +33,11 @@ pub IsSignalSet-and : (a b : ℕ) → IsSignalSet a → IsSignalSet (bit_and a b
 IsSignalSet-and a b h = omega (arith, and_le_l a b)
 
 within : (s : ℕ) → is_signal s ≡ true → (1 ≤ s) × (s ≤ 31)
-within s e = (leb-true 1 s (first_of (nat_le 1 s) (nat_le s 31) e), leb-true s 31 (second_of (nat_le 1 s) (nat_le s 31) e))
+within s e = (
+  leb-true 1 s (first_of (nat_le 1 s) (nat_le s 31) e),
+  leb-true s 31
+      (second_of (nat_le 1 s) (nat_le s 31) e),
+)
 
 pub IsSignalSet-only : (s : ℕ) → IsSignalSet (only s)
 IsSignalSet-only s =
@@ -43,7 +47,8 @@ IsSignalSet-only s =
 
 pub IsSignalSet-generate : (pending s : ℕ) → IsSignalSet (generate pending s)
 IsSignalSet-generate pending s =
-    IsSignalSet-or (outside pending (taken_by s)) (only s) (IsSignalSet-outside pending (taken_by s)) (IsSignalSet-only s)
+    IsSignalSet-or (outside pending (taken_by s)) (only s) (IsSignalSet-outside pending (taken_by s))
+    (IsSignalSet-only s)
 
 pub IsSignalSet-lost_by : (pending s : ℕ) → IsSignalSet pending → IsSignalSet (lost_by pending s)
 IsSignalSet-lost_by pending s h = IsSignalSet-and pending (taken_by s) h
@@ -98,7 +103,7 @@ pub IsMask-only : (s : ℕ) → s ≢ 9 → s ≢ 19 → IsMask (only s)
 IsMask-only s a b =
     cond_both (is_signal s) (2 ^ (s - 1)) 0 IsMask
     (λ e. let l = within s e in mask_of (2 ^ (s - 1))
-      (pow_below (s - 1) 31 (omega (arith, l.0, l.1)))
-      (bit_at-pow_other (s - 1) 8 (λ e. a (omega (arith, l.0))))
-      (bit_at-pow_other (s - 1) 18 (λ e. b (omega (arith, l.0)))))
+    (pow_below (s - 1) 31 (omega (arith, l.0, l.1)))
+    (bit_at-pow_other (s - 1) 8 (λ e. a (omega (arith, l.0))))
+    (bit_at-pow_other (s - 1) 18 (λ e. b (omega (arith, l.0)))))
     (λ e. IsMask-zero)

@@ -70,8 +70,8 @@ abbrev pub line_step : PosixState → ℕ → ℤ → List ℕ → Record → In
 line_step s p n bytes r (instr.Read address count) =
     if is_allowed (read_check s r)
     then for_value
-        (read_from s.terminal (count_of (value_of r.image count)))
-        (line_by s p n bytes (address_of (value_of r.image address)))
+    (read_from s.terminal (count_of (value_of r.image count)))
+    (line_by s p n bytes (address_of (value_of r.image address)))
     else None
 line_step s p n bytes r _ = None
 

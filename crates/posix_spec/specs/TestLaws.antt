@@ -1,13 +1,12 @@
 -- Tests on the processes of a state, and how many children a process has after a change.
-use Rattle.std.specs.Prelude.{◌≡◌, ◌≢◌, ℕ, ◌+◌, ◌≤◌, Bool, true, false, cond, not, nat_eq, List, length, Option, Some, None}
-use Rattle.std.specs.List.{list_any, list_all}
+use Rattle.std.specs.Prelude.{◌≡◌, ℕ, ◌+◌, ◌≤◌, Bool, true, false, cond, not, nat_eq, length, Option, Some, None}
 use Rattle.std.specs.Ordering.{nat_cmp}
 use Rattle.std.specs.declared.cmp.Ordering.TheVariants.{Equal}
 use Rattle.std.specs.Cmp.{nat_cmp_total, ranked}
 use Rattle.std.specs.FinMap as map
 use Rattle.std.specs.FinMap.Entries.{find, put, where_key, same_entries, find-where_key, is_sorted-where_key}
 use Rattle.std.proofs.Common.{refl, sym, ap, ◌∙◌, arith}
-use Rattle.posix_spec.specs.State.{Record, Records, PosixState, record_of}
+use Rattle.posix_spec.specs.State.{Record, PosixState, record_of}
 use Rattle.posix_spec.specs.Records.{settled, with_record, without_record, some_record, every_record, numbers_where, children}
 use Rattle.posix_spec.specs.RecordLaws.{record_of-without_record}
 use Rattle.posix_spec.specs.EntryLaws.{Passes, passing, passing_found, each_found, each_of_found}
@@ -43,7 +42,8 @@ module _ (s : PosixState) (test : ℕ → Record → Bool) where
 
   pub every_record-from : ((q : ℕ) (r : Record) → record_of s q ≡ Some r → test q r ≡ true) → every_record s test ≡ true
   every_record-from each =
-      each_of_found test (map.entries s.records) (map.entries_sorted s.records) (λ q r is. each q r (sym (found_is s q) ∙ is))
+      each_of_found test (map.entries s.records) (map.entries_sorted s.records)
+      (λ q r is. each q r (sym (found_is s q) ∙ is))
 
 -- ---- children
 
@@ -55,21 +55,25 @@ entries_with : (s : PosixState) (p : ℕ) (r : Record) →
 entries_with s p r = map.entries-insert nat_cmp_total s.records p (settled r)
 
 -- a process that is changed, but for its parent
-pub children-with_record : (s : PosixState) (p : ℕ) (old new : Record) → record_of s p ≡ Some old → new.parent ≡ old.parent →
+pub children-with_record : (s : PosixState) (p : ℕ) (old new : Record) → record_of s p ≡ Some old →
+    new.parent ≡ old.parent →
     (q : ℕ) → length (children (with_record s p new) q) ≡ length (children s q)
 unfolding is_child_of
 children-with_record s p old new is same q =
     ap (λ es. length (numbers_where (is_child_of q) es)) (entries_with s p new)
     ∙ counted_over (is_child_of q) p old (settled new) (map.entries s.records) (map.entries_sorted s.records)
-      (found_is s p ∙ is) (λ n. ap (λ x. nat_eq x q) same)
+    (found_is s p ∙ is) (λ n. ap (λ x. nat_eq x q) same)
 
 -- a process that is new
 pub children-with_new : (s : PosixState) (p : ℕ) (new : Record) (q : ℕ) →
     length (children (with_record s p new) q) ≤ one_if (nat_eq new.parent q) + length (children s q)
 unfolding is_child_of
 children-with_new s p new q =
-    omega (arith, ap (λ es. length (numbers_where (is_child_of q) es)) (entries_with s p new),
-      counted_put (is_child_of q) p (settled new) (map.entries s.records))
+    omega (
+      arith,
+      ap (λ es. length (numbers_where (is_child_of q) es)) (entries_with s p new),
+      counted_put (is_child_of q) p (settled new) (map.entries s.records),
+    )
 
 -- a process that goes
 not_this : ℕ → ℕ → Bool
@@ -88,12 +92,17 @@ entries_without s p =
     (map.entries_sorted (without_record s p).records)
     (is_sorted-where_key nat_cmp (not_this p) (map.entries s.records) (map.entries_sorted s.records))
     (λ q. found_is (without_record s p) q ∙ record_of-without_record s p q
-      ∙ taken_or (nat_eq q p) (record_of s q)
-      ∙ ap (λ o. cond (not_this p q) o None) (sym (found_is s q))
-      ∙ sym (find-where_key nat_cmp (not_this p) q (λ x t. ap (not_this p) (sym (ranked q x Equal (sym t)))) (map.entries s.records)))
+    ∙ taken_or (nat_eq q p) (record_of s q)
+    ∙ ap (λ o. cond (not_this p q) o None) (sym (found_is s q))
+    ∙ sym (find-where_key nat_cmp (not_this p) q (λ x t. ap (not_this p) (sym (ranked q x Equal (sym t))))
+    (map.entries s.records)))
 
-pub children-without_record : (s : PosixState) (p q : ℕ) → length (children (without_record s p) q) ≤ length (children s q)
+pub children-without_record : (s : PosixState) (p q : ℕ) → length (children (without_record s p) q) ≤ length
+    (children s q)
 unfolding is_child_of
 children-without_record s p q =
-    omega (arith, ap (λ es. length (numbers_where (is_child_of q) es)) (entries_without s p),
-      counted_where_key (is_child_of q) (not_this p) (map.entries s.records))
+    omega (
+      arith,
+      ap (λ es. length (numbers_where (is_child_of q) es)) (entries_without s p),
+      counted_where_key (is_child_of q) (not_this p) (map.entries s.records),
+    )

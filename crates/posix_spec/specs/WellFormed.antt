@@ -126,7 +126,8 @@ pub record IsSuspended (next : Upcoming) (blocked : Bool) : Type 0 where
 
 -- The call of a process, by what is next: only a call that blocks is blocked, and only in a suspend there is a mask to
 -- come back.
-pub record HasCall (next : Upcoming) (used : Numbers) (live : Bool) (saved : Option ℕ) (call : CallInProgress) (blocked due : Bool) : Type 0 where
+pub record HasCall (next : Upcoming) (used : Numbers) (live : Bool) (saved : Option ℕ) (call : CallInProgress)
+    (blocked due : Bool) : Type 0 where
   pub may_block : IsTrue blocked → IsTrue (is_blocking_next next)
   pub suspended : (m : ℕ) → saved ≡ Some m → IsTrue live → IsSuspended next blocked
   pub wait_call : (numbers : Numbers) → call ≡ WaitCall numbers → IsWaitCall next used numbers
@@ -155,7 +156,8 @@ pub record IsWellFormedRecord (script : Script) (used : Numbers) (p : ℕ) (r : 
 
 -- members of one group are in one session, that of the process that the group is named after
 pub record HasSessions (s : PosixState) : Type 0 where
-  pub same : (p q : ℕ) (a b : Record) → record_of s p ≡ Some a → record_of s q ≡ Some b → a.group ≡ b.group → a.session ≡ b.session
+  pub same : (p q : ℕ) (a b : Record) → record_of s p ≡ Some a → record_of s q ≡ Some b → a.group ≡ b.group →
+      a.session ≡ b.session
   pub leader : (p : ℕ) (a b : Record) → record_of s p ≡ Some a → record_of s a.group ≡ Some b → a.session ≡ b.session
 
 -- the status that is kept for the host: that of the first process, which is a zombie or has gone
