@@ -21,7 +21,13 @@ fits_in_owed bytes i b l h =
 
 pub fits_past_owed : (bytes : List ℕ) (i b : ℕ) → 14 ≤ i → i < 16 → fits_at bytes i b ≡ nat_eq b 0
 fits_past_owed bytes i b l h =
-    rw (le-ltb i 4 (omega arith), le-ltb i 8 (omega arith), le-ltb i 12 (omega arith), le-ltb i 14 l, lt-ltb i 16 h) refl
+    rw (
+      le-ltb i 4 (omega arith),
+      le-ltb i 8 (omega arith),
+      le-ltb i 12 (omega arith),
+      le-ltb i 14 l,
+      lt-ltb i 16 h,
+    ) refl
 
 pub fits_in_actions : (bytes : List ℕ) (i b : ℕ) → 16 ≤ i → i < 140
     → fits_at bytes i b ≡ fits_action (i / 4 - 3) (byte_at bytes (i - i % 4)) (i % 4) b
@@ -83,7 +89,8 @@ pub kind_alone : (signal m n j b : ℕ) → j ≡ 0 → fits_action signal m j b
 kind_alone signal m n j b h = rw h refl
 
 actions_alike : (a b : List ℕ) (i x : ℕ) → ((j : ℕ) → j < i → byte_at a j ≡ byte_at b j)
-    → fits_action (i / 4 - 3) (byte_at a (i - i % 4)) (i % 4) x ≡ fits_action (i / 4 - 3) (byte_at b (i - i % 4)) (i % 4) x
+    → fits_action (i / 4 - 3) (byte_at a (i - i % 4)) (i % 4) x
+    ≡ fits_action (i / 4 - 3) (byte_at b (i - i % 4)) (i % 4) x
 actions_alike a b i x same = elim (cases_eq (i % 4) 0) [
   | inl first ↦ kind_alone (i / 4 - 3) (byte_at a (i - i % 4)) (byte_at b (i - i % 4)) (i % 4) x first
   | inr other ↦ elim (cases_lt 0 i) [
@@ -93,7 +100,8 @@ actions_alike a b i x same = elim (cases_eq (i % 4) 0) [
 ]
 
 -- the test asks nothing of the bytes from the place on
-pub fits_alike : (a b : List ℕ) (i x : ℕ) → ((j : ℕ) → j < i → byte_at a j ≡ byte_at b j) → fits_at a i x ≡ fits_at b i x
+pub fits_alike : (a b : List ℕ) (i x : ℕ) → ((j : ℕ) → j < i → byte_at a j ≡ byte_at b j)
+    → fits_at a i x ≡ fits_at b i x
 fits_alike a b i x same = elim (cases_lt i 8) [
   | inl below ↦ elim (cases_lt i 4) [
     | inl head ↦ fits_in_head a i x head ∙ sym (fits_in_head b i x head)
