@@ -5,11 +5,14 @@ use Rattle.std.specs.List.{list_all}
 abbrev pub is_digit : ℕ → Bool
 is_digit b = nat_le 48 b && nat_le b 57
 
+abbrev pub is_empty : List ℕ → Bool
+is_empty [] = true
+is_empty (b ∷ bs) = false
+
 -- decimal digits, with no 0 before others
 abbrev pub is_canonical : List ℕ → Bool
 is_canonical [] = false
-is_canonical (d ∷ []) = is_digit d
-is_canonical (d ∷ e ∷ ds) = nat_le 49 d && nat_le d 57 && list_all is_digit (e ∷ ds)
+is_canonical (d ∷ ds) = list_all is_digit (d ∷ ds) && (is_empty ds || not (nat_eq d 48))
 
 -- the number whose first digits have the value n
 abbrev pub value_from : ℕ → List ℕ → ℕ
