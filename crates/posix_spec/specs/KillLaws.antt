@@ -105,7 +105,8 @@ module _ (script : Script) where
   }
 
 -- a test between two steps
-either_kept : {P : Type 0} {new : PosixState} (b : Bool) (x y : Option PosixState) → (if b then x else y) ≡ Some new →
+pub either_kept : {P : Type 0} {new : PosixState} (b : Bool) (x y : Option PosixState) →
+    (if b then x else y) ≡ Some new →
     (x ≡ Some new → P) → (y ≡ Some new → P) → P
 either_kept true x y e left right = left e
 either_kept false x y e left right = right e

@@ -59,3 +59,7 @@ pub mod StepLaws
 pub mod SetLaws
 pub mod LeastLaws
 pub mod NumberLaws
+pub mod ValidLaws
+pub mod ShapeLaws
+pub mod EveryStep
+pub mod GoneLaws

@@ -78,7 +78,7 @@ ends r s = ends_by (action_of r s) (default_of s)
 abbrev pub ignores : Record → ℕ → Bool
 ignores r s = is_ignored_by (action_of r s) (default_of s)
 
--- whether the mask blocks a signal, or its action is to ignore it
+-- the action to ignore a signal, whatever its default is
 abbrev pub is_ignore : Action → Bool
 is_ignore action.Default = false
 is_ignore action.Ignore = true
@@ -88,7 +88,8 @@ is_ignore (action.Handler target restart) = false
 unfoldable pub has_handled : Record → ℕ → Bool
 has_handled r set = list_any (λ s. contains set s && is_handler (action_of r s)) signals
 
--- whether a handler waits for its signal or would have, had its generation not been undone since the last own event
+-- whether a signal outside the mask that has a handler is pending, or was, before a generation took it away since the
+-- last own event
 abbrev pub awaits_handler : Record → Bool
 awaits_handler r = has_handled r (outside (bit_or r.pending r.lost) r.mask)
 
