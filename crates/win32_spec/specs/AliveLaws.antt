@@ -148,11 +148,13 @@ module _ (script : Script) (s : Win32State) (w t : ℕ) (c : Call) (new : Win32S
               g1) [
                 | inl other ↦ not_none (process_of s.processes v) q
                     (sym (process_of-add_other
-                    (new_process s.next slot program_no program 1 (listed_handles (handles_by s w) list)) s.processes v d)
+                    (new_process s.next slot program_no program 1 (listed_handles (handles_by s w) list)) s.processes
+                    v d)
                     ∙ other.1) e
                 | inr this ↦ not_none (process_of s.processes v) this.1
                     (sym (process_of-add_other
-                    (new_process s.next slot program_no program 1 (listed_handles (handles_by s w) list)) s.processes v d)
+                    (new_process s.next slot program_no program 1 (listed_handles (handles_by s w) list)) s.processes
+                    v d)
                     ∙ ap (process_of (add_process
                     (new_process s.next slot program_no program 1 (listed_handles (handles_by s w) list)) s.processes))
                     this.0 ∙ this.2) e

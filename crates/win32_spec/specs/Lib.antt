@@ -25,6 +25,7 @@ pub mod LookupLaws
 pub mod ObjectLaws
 pub mod HandleLaws
 pub mod HeldLaws
+pub mod HolderLaws
 pub mod FormedLaws
 pub mod EndFormedLaws
 pub mod SweptLaws

@@ -33,7 +33,8 @@ place-same a b wanted size base same h =
     let back : SayTheSame b a = λ page l. sym (same page l) in (
       free-same a b base size same h.0,
       λ free. h.1 (free-same b a wanted size back free),
-      λ taken lower free. h.2 (λ f. taken (free-same a b wanted size same f)) lower (free-same b a lower size back free),
+      λ taken lower free. h.2 (λ f. taken (free-same a b wanted size same f)) lower
+          (free-same b a lower size back free),
     )
 
 -- there is one place at most

@@ -30,6 +30,10 @@ use Rattle.win32_spec.specs.PostedLaws.{thread_in-same, posted_found}
 use Rattle.win32_spec.specs.DrivenLaws.{driven_step}
 use Rattle.win32_spec.specs.ServedLaws.{process_in-is, served-follows}
 
+-- what holds of a value that is there
+match_some : {X : Type 0} (A : Type 0) (B : X → Type 0) (o : Option X) (x : X) → o ≡ Some x → B x → MatchOption o A B
+match_some A B o x e b = subst (λ k. MatchOption k A B) (sym e) b
+
 -- two slots with the same process are one
 same_slot : (script : Script) (s : Win32State) (a b w : ℕ) → IsFormed script s → number_in s a ≡ Some w
     → number_in s b ≡ Some w → a ≡ b
@@ -119,9 +123,10 @@ module _ {P : Type 0} (posted_of : P → Call) (goes : P → Own → Setup → R
         ap (λ o. thread_of o t) there
         ∙ thread_in-same t (λ x. record x { posted = posted_of m.0 }) (λ x. refl) r.0.threads y.0 y.1 in
         let part = part_served in
-        subst (λ o. MatchOption o (part_at new.parts slot t ≡ None)
+        match_some (part_at new.parts slot t ≡ None)
         (λ x. (part : P) × (part_at new.parts slot t ≡ Some part)
-        × Serves posted_of goes opening slot_of thread_of_part slot t x part)) (sym thread) (
+        × Serves posted_of goes opening slot_of thread_of_part slot t x part) (thread_at new.win32 slot t)
+        (record y.0 { posted = posted_of m.0 }) thread (
           m.0,
           m.2,
           record {
