@@ -17,3 +17,4 @@ pub mod EventsOfText
 pub mod LogFaultLaws
 pub mod LogFaults
 pub mod TextOrFault
+pub mod CallsViewLaws
