@@ -45,15 +45,18 @@ others_stay (line ∷ lines) first = refl
 abbrev with_lines : ℕ → ℕ → List ℕ → List (List ℕ) → Terminal
 with_lines group flags line lines = record { foreground = group; flags = flags; line = line; done_lines = lines }
 
-module _ (old new : Terminal) (group flags : ℕ) (line : List ℕ) (items : List (List ℕ)) (first slice bytes : List ℕ) (n count : ℕ)
+module _ (old new : Terminal) (group flags : ℕ) (line : List ℕ) (items : List (List ℕ))
+    (first slice bytes : List ℕ) (n count : ℕ)
     (old_is : old ≡ with_lines group flags line items) (some : 0 < length items)
-    (first_is : first ≡ slice_index_or items 0 first) (count_is : count ≡ min n (length first)) (slice_is : slice ≡ first)
+    (first_is : first ≡ slice_index_or items 0 first) (count_is : count ≡ min n (length first))
+    (slice_is : slice ≡ first)
     (bytes_are : bytes ≡ take count slice) where
   same_bytes : bytes ≡ take count first
   same_bytes = bytes_are ∙ ap (take count) slice_is
 
   pub partly_taken : (left : List ℕ) → count < length first → left ≡ drop count first
-      → new ≡ with_lines group flags line (slice_set items 0 left) → after_take old n ≡ Some (record { terminal = new; bytes = bytes })
+      → new ≡ with_lines group flags line (slice_set items 0 left)
+      → after_take old n ≡ Some (record { terminal = new; bytes = bytes })
   partly_taken left more left_is new_is =
       let taken = partly_left items first n count (with_lines group flags line items) some first_is count_is more in
       let answer = ap (λ (terminal : Terminal). after_take terminal n) old_is in

@@ -93,11 +93,12 @@ impl Tty {
         }
     }
 
-    /// Takes at most `n` bytes of the first done line, or answers none exactly where no line is done. What is left of it
-    /// stays the first line.
+    /// Takes at most `n` bytes of the first done line, or answers none exactly where no line is done. What is left of
+    /// it stays the first line.
     pub fn take_line(&mut self, n: u8) -> Option<Bytes64>
         requires { n ≤ 64 }
-        ensures { MatchOption result ((after_take self.old n ≡ None) × (self.new ≡ self.old)) (λ bytes. after_take self.old n ≡ Some (record { terminal = self.new; bytes = bytes })) }
+        ensures { MatchOption result ((after_take self.old n ≡ None) × (self.new ≡ self.old))
+            (λ bytes. after_take self.old n ≡ Some (record { terminal = self.new; bytes = bytes })) }
     {
         let Some(first) = self.done.get_mut(0) else {
             return None;
