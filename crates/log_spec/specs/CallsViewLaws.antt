@@ -1,7 +1,8 @@
 -- In view `calls` the groups together have as many bytes as the lines of all events of the view, and the line of each
 -- of
 -- these events stands in them.
-use Rattle.std.specs.Prelude.{◌≡◌, ℕ, zero, suc, ◌+◌, ◌<◌, Bool, true, false, ◌&&◌, ◌||◌, nat_eq, nat_lt, if◌then◌else◌, List, [], ◌∷◌, ◌++◌, length, flat_map}
+use Rattle.std.specs.Prelude.{◌≡◌, ℕ, zero, suc, ◌+◌, ◌<◌, Bool, true, false, ◌&&◌, ◌||◌, nat_eq, nat_lt, if◌then◌else◌}
+use Rattle.std.specs.Prelude.{List, [], ◌∷◌, ◌++◌, length, flat_map}
 use Rattle.std.specs.List.{filter, list_all}
 use Rattle.std.proofs.Common.{refl, arith, sym, ap, ◌∙◌, append_assoc, length-append, inl, inr}
 use Rattle.std.proofs.lemmas.Bool.{cases_order}
@@ -10,7 +11,8 @@ use Rattle.std.proofs.lemmas.Bool.Decides.{nat_tests}
 use Rattle.w32_base.specs.declared.event.Event.{Event}
 use Rattle.log_spec.specs.Texts.{line}
 use Rattle.script_spec.specs.declared.script.Script.{Script}
-use Rattle.log_spec.specs.Words.{Word, Plain, Actor, Host, Numeral, ProgramName, ModuleName, KeyByte, Bytes, is_actor, is_numeral, is_byte, is_word_within}
+use Rattle.log_spec.specs.Words.{Word, Plain, Actor, Host, Numeral, ProgramName, ModuleName, KeyByte, Bytes, is_actor}
+use Rattle.log_spec.specs.Words.{is_numeral, is_byte, is_word_within}
 use Rattle.log_spec.specs.Events.{words_of, event_text, first_number, actor_of, is_event_within}
 use Rattle.log_spec.specs.EventsReadLaws.{parts}
 use Rattle.log_spec.specs.Views.{is_call_event, call_line, call_lines_of, call_lines_below, event_lines}

@@ -21,7 +21,8 @@ use Rattle.w32_base.specs.declared.event.Event.{Event}
 use Rattle.w32_base.specs.declared.event.Event.TheVariants as event
 use Rattle.script_spec.specs.declared.script.Script.{Script}
 use Rattle.log_spec.specs.Texts.{spaced}
-use Rattle.log_spec.specs.Words.{Word, Plain, Actor, Host, Numeral, ProgramName, ModuleName, KeyByte, Bytes, word_text, is_word_within}
+use Rattle.log_spec.specs.Words.{Word, Plain, Actor, Host, Numeral, ProgramName, ModuleName, KeyByte, Bytes, word_text}
+use Rattle.log_spec.specs.Words.{is_word_within}
 
 abbrev pub errno_text : Errno → List ℕ
 errno_text errno.EPERM = codes "EPERM"

@@ -20,7 +20,8 @@ use Rattle.log_spec.specs.Texts.{byte_text, bytes_text}
 use Rattle.log_spec.specs.Words.{is_actor, is_numeral, is_byte, word_text}
 use Rattle.log_spec.specs.Events.{words_of, is_event_within}
 use Rattle.log_spec.specs.EventsRead.{natural_in, integer_in, byte_in, bytes_in, event_in}
-use Rattle.log_spec.specs.EventsReadLaws.{parts, natural_is, actor_is, numeral_is, key_byte_is, bytes_are, errno_is, answer_is}
+use Rattle.log_spec.specs.EventsReadLaws.{parts, natural_is, actor_is, numeral_is, key_byte_is, bytes_are, errno_is}
+use Rattle.log_spec.specs.EventsReadLaws.{answer_is}
 
 -- the first number of an event's words is read back, and each other one, by how many tests stand before its own
 actor : (b : Bool) (p : ℕ) → (is_actor p && b) ≡ true → natural_in (decimal p) ≡ p

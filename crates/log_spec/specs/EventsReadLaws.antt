@@ -1,5 +1,6 @@
 -- An event in its range is read back from its text.
-use Rattle.std.specs.Prelude.{◌≡◌, ℕ, suc, ◌+◌, ◌*◌, ◌/◌, ◌%◌, ◌^◌, ◌<◌, ◌≤◌, ℤ, pos, negsuc, Bool, true, false, ◌&&◌, nat_eq, List, [], ◌∷◌, length, flat_map}
+use Rattle.std.specs.Prelude.{◌≡◌, ℕ, suc, ◌+◌, ◌*◌, ◌/◌, ◌%◌, ◌^◌, ◌<◌, ◌≤◌, ℤ, pos, negsuc, Bool, true, false, ◌&&◌}
+use Rattle.std.specs.Prelude.{nat_eq, List, [], ◌∷◌, length, flat_map}
 use Rattle.std.specs.List.{list_all}
 use Rattle.std.specs.Fmt.{decimal, signed_decimal, digit_glyph}
 use Rattle.std.specs.Str.Parse.{AllDigits}
@@ -15,7 +16,8 @@ use Rattle.w32_base.specs.declared.event.Errno.TheVariants as errno
 use Rattle.log_spec.specs.Texts.{byte_text, bytes_text}
 use Rattle.log_spec.specs.Words.{is_actor, is_numeral, is_byte}
 use Rattle.log_spec.specs.Events.{errno_text, answer_text}
-use Rattle.log_spec.specs.EventsRead.{natural_in, integer_in, below_zero, nibble_in, bytes_in, byte_in, errno_in, answer_in}
+use Rattle.log_spec.specs.EventsRead.{natural_in, integer_in, below_zero, nibble_in, bytes_in, byte_in, errno_in}
+use Rattle.log_spec.specs.EventsRead.{answer_in}
 
 -- two tests that hold together, apart
 pub parts : (a b : Bool) → (a && b) ≡ true → (a ≡ true) × (b ≡ true)

@@ -1,5 +1,6 @@
 -- The words of an event's line have no space, and the line no end within it: so a line is parted into its words again.
-use Rattle.std.specs.Prelude.{◌≡◌, ℕ, suc, ◌+◌, ◌/◌, ◌%◌, ◌^◌, ◌<◌, ℤ, pos, negsuc, Bool, true, false, ◌&&◌, not, nat_eq, nat_le, nat_lt, List, [], ◌∷◌, ◌++◌, map, length, flat_map}
+use Rattle.std.specs.Prelude.{◌≡◌, ℕ, suc, ◌+◌, ◌/◌, ◌%◌, ◌^◌, ◌<◌, ℤ, pos, negsuc, Bool, true, false, ◌&&◌, not}
+use Rattle.std.specs.Prelude.{nat_eq, nat_le, nat_lt, List, [], ◌∷◌, ◌++◌, map, length, flat_map}
 use Rattle.std.specs.List.{list_all, onto_first, slice_split}
 use Rattle.std.specs.Fmt.{decimal, signed_decimal, digit_glyph}
 use Rattle.std.proofs.Common.{refl, arith, ap, ◌∙◌}
@@ -22,7 +23,8 @@ use Rattle.w32_base.specs.declared.event.Event.{Event}
 use Rattle.w32_base.specs.declared.event.Event.TheVariants as event
 use Rattle.script_spec.specs.declared.script.Script.{Script}
 use Rattle.log_spec.specs.Texts.{spaced, byte_text, bytes_text}
-use Rattle.log_spec.specs.Words.{Word, Plain, Actor, Host, Numeral, ProgramName, ModuleName, KeyByte, Bytes, word_text, is_actor, is_numeral, is_word_within}
+use Rattle.log_spec.specs.Words.{Word, Plain, Actor, Host, Numeral, ProgramName, ModuleName, KeyByte, Bytes, word_text}
+use Rattle.log_spec.specs.Words.{is_actor, is_numeral, is_word_within}
 use Rattle.log_spec.specs.Events.{errno_text, words_of, event_text, is_event_within}
 use Rattle.log_spec.specs.EventsRead.{words_in}
 use Rattle.log_spec.specs.EventsReadLaws.{parts, together}

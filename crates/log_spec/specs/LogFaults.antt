@@ -15,7 +15,8 @@ use Rattle.log_spec.specs.EventsRead.{lines_in, event_in_line}
 use Rattle.log_spec.specs.EventsReadLaws.{parts, together}
 use Rattle.log_spec.specs.EventsTextLaws.{only_part, event_has_no_end}
 use Rattle.log_spec.specs.EventsOfText.{text_is_parted, event_is_read}
-use Rattle.log_spec.specs.LineLaws.{line_is_parted, whole_are_parted, with_line, begins_apart, first_is, rest_is, parts_some, open_stops}
+use Rattle.log_spec.specs.LineLaws.{line_is_parted, whole_are_parted, with_line, begins_apart, first_is, rest_is}
+use Rattle.log_spec.specs.LineLaws.{parts_some, open_stops}
 
 -- the lines of a text before its last one
 abbrev pub front : List Event → List (List ℕ)

@@ -1,5 +1,6 @@
 -- How signals act: handlers that begin, discards, stops and notices keep a state well formed.
-use Rattle.std.specs.Prelude.{◌≡◌, ◌≢◌, ℕ, ◌+◌, ◌-◌, ℤ, Bool, true, false, ◌&&◌, not, nat_eq, nat_le, nat_lt, length, if◌then◌else◌, Some, None, bit_or}
+use Rattle.std.specs.Prelude.{◌≡◌, ◌≢◌, ℕ, ◌+◌, ◌-◌, ℤ, Bool, true, false, ◌&&◌, not, nat_eq, nat_le, nat_lt, length}
+use Rattle.std.specs.Prelude.{if◌then◌else◌, Some, None, bit_or}
 use Rattle.std.proofs.Common.{refl, sym, ap, subst, ◌∙◌, arith, true≢false}
 use Rattle.w32_base.specs.declared.event.Delivery.{Delivery}
 use Rattle.w32_base.specs.declared.event.Event.TheVariants as event
@@ -9,14 +10,17 @@ use Rattle.w32_base.specs.declared.instr.Action.TheVariants as action
 use Rattle.script_spec.specs.declared.script.Script.{Script}
 use Rattle.vm_spec.specs.Frames.{has_frame_room, with_frame}
 use Rattle.posix_spec.specs.Numbers.{error_result}
-use Rattle.posix_spec.specs.Signals.{ByDefault, End, Ignore, StopByDefault, Continue, only, outside, child_signal, continue_signal, is_stop_signal, is_ignored_signal, default_of}
+use Rattle.posix_spec.specs.Signals.{ByDefault, End, Ignore, StopByDefault, Continue, only, outside, child_signal}
+use Rattle.posix_spec.specs.Signals.{continue_signal, is_stop_signal, is_ignored_signal, default_of}
 use Rattle.posix_spec.specs.State.{Life, Running, Stopped, Zombie, Numbers, Record, PosixState, record_of}
 use Rattle.posix_spec.specs.Pending.{is_running, is_handler, action_of, stops, stops_by, ignores, without_signal}
 use Rattle.posix_spec.specs.Records.{change_record}
 use Rattle.posix_spec.specs.Waits.{death_to_report}
 use Rattle.posix_spec.specs.Conditions.{is_group_call}
 use Rattle.posix_spec.specs.Sending.{owed_more}
-use Rattle.posix_spec.specs.SignalActs.{is_deliverable, is_interrupted, is_delivery, interrupted_image, mask_to_return, in_handler, deliver_by, deliver_step, discarded, discard_step, stopped, stop_step, notified, notify_step}
+use Rattle.posix_spec.specs.SignalActs.{is_deliverable, is_interrupted, is_delivery, interrupted_image, mask_to_return}
+use Rattle.posix_spec.specs.SignalActs.{in_handler, deliver_by, deliver_step, discarded, discard_step, stopped}
+use Rattle.posix_spec.specs.SignalActs.{stop_step, notified, notify_step}
 use Rattle.posix_spec.specs.DeathSteps.{is_zombie}
 use Rattle.posix_spec.specs.Step.{posix_step}
 use Rattle.posix_spec.specs.RecordLaws.{same_record}

@@ -1,5 +1,6 @@
 -- What is known of a process that has an event of its own, and of one whose call has ended.
-use Rattle.std.specs.Prelude.{◌≡◌, ℕ, Bool, true, false, ◌&&◌, not, nat_lt, if◌then◌else◌, List, length, slice_get, Option, Some, None, is_some}
+use Rattle.std.specs.Prelude.{◌≡◌, ℕ, Bool, true, false, ◌&&◌, not, nat_lt, if◌then◌else◌, List, length, slice_get}
+use Rattle.std.specs.Prelude.{Option, Some, None, is_some}
 use Rattle.std.specs.Option.{unwrap_or}
 use Rattle.std.proofs.Common.{refl, sym, ap, ◌∙◌, arith, true≢false, inl, inr}
 use Rattle.std.proofs.lemmas.Bool.{cases_Bool, or_parts}
@@ -9,11 +10,13 @@ use Rattle.script_spec.specs.declared.script.Script.{Script}
 use Rattle.vm_spec.specs.Image.{Image, place_of, in_use}
 use Rattle.vm_spec.specs.Faults.{instr_faults, faults_at, faults}
 use Rattle.vm_spec.specs.Step.{Upcoming, LocalInstruction, CallInstruction, ImageFault, is_local, upcoming_at, upcoming}
-use Rattle.posix_spec.specs.State.{Life, Running, Stopped, Zombie, Numbers, GroupCall, CallInProgress, NoCall, WaitCall, ForGroup, Record}
+use Rattle.posix_spec.specs.State.{Life, Running, Stopped, Zombie, Numbers, GroupCall, CallInProgress, NoCall, WaitCall}
+use Rattle.posix_spec.specs.State.{ForGroup, Record}
 use Rattle.posix_spec.specs.Pending.{is_running, is_live}
 use Rattle.posix_spec.specs.Waits.{looked_at}
 use Rattle.posix_spec.specs.GroupCalls.{in_progress}
-use Rattle.posix_spec.specs.Conditions.{next_of, call_of, is_group_call, waits_for_signal, may_go_on, may_act, own_call, group_step_call, call_ended}
+use Rattle.posix_spec.specs.Conditions.{next_of, call_of, is_group_call, waits_for_signal, may_go_on, may_act, own_call}
+use Rattle.posix_spec.specs.Conditions.{group_step_call, call_ended}
 use Rattle.posix_spec.specs.DeathSteps.{is_zombie}
 use Rattle.posix_spec.specs.SignalLaws.{first_of, second_of}
 use Rattle.posix_spec.specs.WellFormed.{IsImage, HasCall, IsSuspended, IsWellFormedRecord, is_suspend_next}

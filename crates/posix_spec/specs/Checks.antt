@@ -1,5 +1,6 @@
 -- The checks of a call before its event, and those of the terminal's calls (POSIX.1-2017, XBD 11.1.4, XSH tcsetpgrp).
-use Rattle.std.specs.Prelude.{ℕ, ℤ, pos, negsuc, min, Bool, true, false, ◌&&◌, ◌||◌, not, nat_eq, if◌then◌else◌, Option, Some, None}
+use Rattle.std.specs.Prelude.{ℕ, ℤ, pos, negsuc, min, Bool, true, false, ◌&&◌, ◌||◌, not, nat_eq, if◌then◌else◌, Option}
+use Rattle.std.specs.Prelude.{Some, None}
 use Rattle.w32_base.specs.declared.event.Errno.{Errno}
 use Rattle.w32_base.specs.declared.event.Errno.TheVariants as errno
 use Rattle.w32_base.specs.declared.instr.Operand.{Operand}

@@ -1,6 +1,7 @@
 -- What an event of a process's own needs of it, and what it does to its notes.
 -- An own event is one whose first number is the process's, but discard, notify, collect and die.
-use Rattle.std.specs.Prelude.{ℕ, ℤ, Bool, true, false, ◌&&◌, not, if◌then◌else◌, List, [], Option, Some, None, slice_get}
+use Rattle.std.specs.Prelude.{ℕ, ℤ, Bool, true, false, ◌&&◌, not, if◌then◌else◌, List, [], Option, Some, None}
+use Rattle.std.specs.Prelude.{slice_get}
 use Rattle.w32_base.specs.declared.instr.Instr.{Instr}
 use Rattle.w32_base.specs.declared.instr.Instr.TheVariants as instr
 use Rattle.w32_base.specs.declared.setup.Program.{Program}

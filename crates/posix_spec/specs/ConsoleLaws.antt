@@ -1,5 +1,6 @@
 -- The console's keys, the host, and the rule for the background keep a state well formed.
-use Rattle.std.specs.Prelude.{◌≡◌, ℕ, ◌<◌, ◌≤◌, ℤ, Bool, true, false, ◌&&◌, ◌||◌, not, nat_eq, nat_lt, if◌then◌else◌, is_none, List, [], ◌∷◌, ◌++◌, length, take, Option, Some, None}
+use Rattle.std.specs.Prelude.{◌≡◌, ℕ, ◌<◌, ◌≤◌, ℤ, Bool, true, false, ◌&&◌, ◌||◌, not, nat_eq, nat_lt, if◌then◌else◌}
+use Rattle.std.specs.Prelude.{is_none, List, [], ◌∷◌, ◌++◌, length, take, Option, Some, None}
 use Rattle.std.specs.Option.{unwrap_or}
 use Rattle.std.proofs.Common.{refl, sym, ap, subst, ◌∙◌, arith, eqb-true}
 use Rattle.std.proofs.lemmas.Bool.{cond_both}
@@ -13,13 +14,17 @@ use Rattle.script_spec.specs.declared.script.Script.{Script}
 use Rattle.vm_spec.specs.Image.{value_of}
 use Rattle.vm_spec.specs.Step.{CallInstruction}
 use Rattle.tty_spec.specs.Terminal.{Terminal}
-use Rattle.tty_spec.specs.Discipline.{KeyTaken, has_flag, tostop_flag, noflsh_flag, isig_flag, signal_of_key, most_done_lines, most_line_bytes, echoing, without_lines, erasing, killing, with_done_line, ending, adding, keying, after_key}
+use Rattle.tty_spec.specs.Discipline.{KeyTaken, has_flag, tostop_flag, noflsh_flag, isig_flag, signal_of_key}
+use Rattle.tty_spec.specs.Discipline.{most_done_lines, most_line_bytes, echoing, without_lines, erasing, killing}
+use Rattle.tty_spec.specs.Discipline.{with_done_line, ending, adding, keying, after_key}
 use Rattle.tty_spec.specs.TerminalLaws.{after_key_keeps}
 use Rattle.posix_spec.specs.Numbers.{natural_of}
 use Rattle.posix_spec.specs.State.{GroupCall, Record, PosixState, record_of}
 use Rattle.posix_spec.specs.Records.{change_record}
 use Rattle.posix_spec.specs.Groups.{is_orphaned, has_member_in}
-use Rattle.posix_spec.specs.Checks.{Check, Allowed, Refused, SendsFirst, then_check, sent_first, check_that, is_background, is_blocked_or_ignored, background_rule, change_rule, new_flags, flags_rule, foreground_rule}
+use Rattle.posix_spec.specs.Checks.{Check, Allowed, Refused, SendsFirst, then_check, sent_first, check_that}
+use Rattle.posix_spec.specs.Checks.{is_background, is_blocked_or_ignored, background_rule, change_rule, new_flags}
+use Rattle.posix_spec.specs.Checks.{flags_rule, foreground_rule}
 use Rattle.posix_spec.specs.Conditions.{call_ended}
 use Rattle.posix_spec.specs.GroupCalls.{begun, background_call, is_complete}
 use Rattle.posix_spec.specs.KillSteps.{in_call_for}

@@ -1,5 +1,6 @@
 -- The end of a process keeps a state well formed.
-use Rattle.std.specs.Prelude.{◌≡◌, ◌≢◌, ℕ, ◌-◌, ◌^◌, ◌<◌, ℤ, Bool, true, false, cond, ◌&&◌, not, nat_eq, nat_lt, nat_le, if◌then◌else◌, Option, Some, None, bit_and}
+use Rattle.std.specs.Prelude.{◌≡◌, ◌≢◌, ℕ, ◌-◌, ◌^◌, ◌<◌, ℤ, Bool, true, false, cond, ◌&&◌, not, nat_eq, nat_lt, nat_le}
+use Rattle.std.specs.Prelude.{if◌then◌else◌, Option, Some, None, bit_and}
 use Rattle.std.specs.Option.{unwrap_or}
 use Rattle.std.specs.Int.Bits.{and_zero_r}
 use Rattle.std.proofs.Common.{refl, sym, ap, subst, ◌∙◌, arith, true≢false, eqb-true, false-eqb, ltb-true, leb-true}
@@ -16,7 +17,8 @@ use Rattle.posix_spec.specs.Pending.{is_live, is_stopped, open_signals}
 use Rattle.posix_spec.specs.Records.{settled, with_record, without_record, change_record, is_live_at}
 use Rattle.posix_spec.specs.Conditions.{next_of, may_go_on}
 use Rattle.posix_spec.specs.SignalActs.{is_this}
-use Rattle.posix_spec.specs.DeathSteps.{exit_status, is_signal_death, fault_status, outside_status, has_faulted, may_die, dead, with_status, died, die_step, is_zombie, collect_step}
+use Rattle.posix_spec.specs.DeathSteps.{exit_status, is_signal_death, fault_status, outside_status, has_faulted}
+use Rattle.posix_spec.specs.DeathSteps.{may_die, dead, with_status, died, die_step, is_zombie, collect_step}
 use Rattle.posix_spec.specs.Step.{posix_step}
 use Rattle.posix_spec.specs.RecordLaws.{each_with_record, record_of-with_record, record_of-change_record}
 use Rattle.posix_spec.specs.TestLaws.{children-with_record}

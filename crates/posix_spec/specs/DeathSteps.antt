@@ -1,5 +1,6 @@
 -- The end of processes, and what is left of them (POSIX.1-2017, XSH exit and 2.4.3).
-use Rattle.std.specs.Prelude.{ℕ, ◌+◌, ◌-◌, ℤ, Bool, true, false, ◌&&◌, ◌||◌, not, nat_eq, nat_lt, if◌then◌else◌, Option, Some, None}
+use Rattle.std.specs.Prelude.{ℕ, ◌+◌, ◌-◌, ℤ, Bool, true, false, ◌&&◌, ◌||◌, not, nat_eq, nat_lt, if◌then◌else◌, Option}
+use Rattle.std.specs.Prelude.{Some, None}
 use Rattle.w32_base.specs.declared.event.Death.{Death}
 use Rattle.w32_base.specs.declared.event.Death.TheVariants as death
 use Rattle.w32_base.specs.declared.instr.Instr.TheVariants as instr

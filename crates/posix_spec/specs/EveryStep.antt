@@ -17,12 +17,14 @@ use Rattle.posix_spec.specs.ForkSteps.{fork_step, fork_fail_step, exec_step, exe
 use Rattle.posix_spec.specs.GroupCalls.{begun, background_call}
 use Rattle.posix_spec.specs.KillSteps.{in_call_for, kill_step, member_step, group_done_step}
 use Rattle.posix_spec.specs.OwnSteps.{run_block_step, run_step, get_step}
-use Rattle.posix_spec.specs.SignalActs.{is_deliverable, stopped, deliver_by, deliver_step, discard_step, stop_step, notify_step}
+use Rattle.posix_spec.specs.SignalActs.{is_deliverable, stopped, deliver_by, deliver_step, discard_step, stop_step}
+use Rattle.posix_spec.specs.SignalActs.{notify_step}
 use Rattle.posix_spec.specs.SignalCalls.{mask_step, action_step, suspend_step, return_step}
 use Rattle.posix_spec.specs.WaitSteps.{look_step, block_step, nothing_step, reap_step, report_step, no_child_step}
 use Rattle.posix_spec.specs.DeathSteps.{dead, with_status, died, die_step, collect_step, is_host_code}
 use Rattle.posix_spec.specs.GroupSteps.{setpgid_step, setsid_step}
-use Rattle.posix_spec.specs.TerminalSteps.{tcset_step, flags_step, line_step, write_step, background_by, background_step, background_done_by, background_done_step}
+use Rattle.posix_spec.specs.TerminalSteps.{tcset_step, flags_step, line_step, write_step, background_by}
+use Rattle.posix_spec.specs.TerminalSteps.{background_step, background_done_by, background_done_step}
 use Rattle.posix_spec.specs.Refusals.{check_of, refuse_step}
 use Rattle.posix_spec.specs.ConsoleSteps.{call_for, with_key, console_member_step, console_done_step}
 use Rattle.posix_spec.specs.Step.{member_of, group_done_of, posix_step}

@@ -1,5 +1,6 @@
 -- A new program keeps a state well formed.
-use Rattle.std.specs.Prelude.{◌≡◌, ℕ, zero, suc, ◌-◌, ◌≤◌, true, false, if◌then◌else◌, List, [], ◌∷◌, map, slice_get, Option, Some, None}
+use Rattle.std.specs.Prelude.{◌≡◌, ℕ, zero, suc, ◌-◌, ◌≤◌, true, false, if◌then◌else◌, List, [], ◌∷◌, map, slice_get}
+use Rattle.std.specs.Prelude.{Option, Some, None}
 use Rattle.std.specs.Option.{unwrap_or}
 use Rattle.std.proofs.Common.{refl, sym, ap, subst, ◌∙◌, arith}
 use Rattle.std.proofs.lemmas.List.{length-map}
@@ -17,7 +18,8 @@ use Rattle.vm_spec.specs.NewImage.{new_image}
 use Rattle.posix_spec.specs.State.{Numbers, Record, PosixState}
 use Rattle.posix_spec.specs.Pending.{action_in}
 use Rattle.posix_spec.specs.Records.{change_record}
-use Rattle.posix_spec.specs.ForkSteps.{NumberedProgram, program_from, program_named, action_after_exec, replaced, exec_to, exec_step}
+use Rattle.posix_spec.specs.ForkSteps.{NumberedProgram, program_from, program_named, action_after_exec, replaced}
+use Rattle.posix_spec.specs.ForkSteps.{exec_to, exec_step}
 use Rattle.posix_spec.specs.Step.{posix_step}
 use Rattle.posix_spec.specs.Ranges.{HasRanges}
 use Rattle.posix_spec.specs.LocalLaws.{IsImage-new}

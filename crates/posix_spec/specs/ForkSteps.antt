@@ -1,5 +1,6 @@
 -- New processes and new programs (POSIX.1-2017, XSH fork and exec).
-use Rattle.std.specs.Prelude.{ℕ, suc, ◌+◌, ℤ, pos, Bool, true, false, ◌&&◌, not, nat_eq, nat_le, nat_lt, if◌then◌else◌, List, [], ◌∷◌, length, map, Option, Some, None, is_some}
+use Rattle.std.specs.Prelude.{ℕ, suc, ◌+◌, ℤ, pos, Bool, true, false, ◌&&◌, not, nat_eq, nat_le, nat_lt, if◌then◌else◌}
+use Rattle.std.specs.Prelude.{List, [], ◌∷◌, length, map, Option, Some, None, is_some}
 use Rattle.std.specs.FinSet as set
 use Rattle.w32_base.specs.Names.{is_same}
 use Rattle.w32_base.specs.declared.event.Errno.TheVariants as errno

@@ -1,5 +1,6 @@
 -- What is known of calls for a group, and that other parts of a state than its processes may change.
-use Rattle.std.specs.Prelude.{◌≡◌, ℕ, ◌≤◌, ℤ, pos, negsuc, true, false, ◌&&◌, ◌||◌, nat_eq, nat_le, if◌then◌else◌, Option, Some, None}
+use Rattle.std.specs.Prelude.{◌≡◌, ℕ, ◌≤◌, ℤ, pos, negsuc, true, false, ◌&&◌, ◌||◌, nat_eq, nat_le, if◌then◌else◌}
+use Rattle.std.specs.Prelude.{Option, Some, None}
 use Rattle.std.specs.Option.{unwrap_or}
 use Rattle.std.specs.Ordering.{nat_cmp, eq_by_cmp}
 use Rattle.std.specs.Cmp.{nat_cmp_total}
@@ -13,11 +14,13 @@ use Rattle.vm_spec.specs.Image.{value_of}
 use Rattle.vm_spec.specs.Step.{CallInstruction}
 use Rattle.posix_spec.specs.Numbers.{natural_within}
 use Rattle.posix_spec.specs.Signals.{continue_signal}
-use Rattle.posix_spec.specs.State.{Numbers, GroupCall, CallInProgress, NoCall, WaitCall, ForGroup, Record, PosixState, record_of}
+use Rattle.posix_spec.specs.State.{Numbers, GroupCall, CallInProgress, NoCall, WaitCall, ForGroup, Record, PosixState}
+use Rattle.posix_spec.specs.State.{record_of}
 use Rattle.posix_spec.specs.Pending.{is_stopped}
 use Rattle.posix_spec.specs.Records.{changed_at, change_record}
 use Rattle.posix_spec.specs.Sending.{generated, owed_more, owed_for, sent}
-use Rattle.posix_spec.specs.GroupCalls.{begun, killing_signal, target_group, begun_for, in_progress, progress_or, either_call, member_call}
+use Rattle.posix_spec.specs.GroupCalls.{begun, killing_signal, target_group, begun_for, in_progress, progress_or}
+use Rattle.posix_spec.specs.GroupCalls.{either_call, member_call}
 use Rattle.posix_spec.specs.EntryLaws.{same_number}
 use Rattle.posix_spec.specs.WellFormed.{IsUsed, AreUsed, IsGroupCall, IsWellFormedRecord, is_group_next}
 use Rattle.posix_spec.specs.CallLaws.{none_some}

@@ -14,7 +14,8 @@ use Rattle.posix_spec.specs.Records.{with_record, change_record}
 use Rattle.posix_spec.specs.Groups.{has_member_in}
 use Rattle.posix_spec.specs.Checks.{Check, is_allowed, then_check, check_that}
 use Rattle.posix_spec.specs.Conditions.{answered}
-use Rattle.posix_spec.specs.GroupSteps.{or_this, is_movable, is_joinable, move_check, group_check, setpgid_check, is_move, in_group, setpgid_step}
+use Rattle.posix_spec.specs.GroupSteps.{or_this, is_movable, is_joinable, move_check, group_check, setpgid_check}
+use Rattle.posix_spec.specs.GroupSteps.{is_move, in_group, setpgid_step}
 use Rattle.posix_spec.specs.Step.{posix_step}
 use Rattle.posix_spec.specs.RecordLaws.{same_record, each_with_record, record_of-change_record}
 use Rattle.posix_spec.specs.TestLaws.{HasRecord, some_record-is}

@@ -1,12 +1,15 @@
 -- An image stays one of a program of its script through what is done to it.
-use Rattle.std.specs.Prelude.{◌≡◌, ℕ, ◌+◌, ◌-◌, ◌*◌, ◌%◌, ◌^◌, ◌<◌, ◌≤◌, ℤ, true, List, ◌++◌, length, take, drop, slice_get, Option, Some, None, IsSomeAnd}
+use Rattle.std.specs.Prelude.{◌≡◌, ℕ, ◌+◌, ◌-◌, ◌*◌, ◌%◌, ◌^◌, ◌<◌, ◌≤◌, ℤ, true, List, ◌++◌, length, take, drop}
+use Rattle.std.specs.Prelude.{slice_get, Option, Some, None, IsSomeAnd}
 use Rattle.std.specs.Int.{w32, cast_unsigned, from_le_bytes}
 use Rattle.std.proofs.Common.{refl, sym, ap, subst, ◌∙◌, arith, length-drop, leb-true, drop-drop}
 use Rattle.std.proofs.lemmas.List.{length-take-le, drop_at}
 use Rattle.w32_base.specs.declared.setup.Program.{Program}
 use Rattle.script_spec.specs.declared.script.Script.{Script}
-use Rattle.vm_spec.specs.Image.{Image, SameSizes, word_at, with_word, with_register, at_place, moved_on, in_use, with_in_use, place_of, program_of, with_result}
-use Rattle.vm_spec.specs.Frames.{has_frame_room, with_frame, stack_with_frame, has_frame, without_frame, data_from_frame}
+use Rattle.vm_spec.specs.Image.{Image, SameSizes, word_at, with_word, with_register, at_place, moved_on, in_use}
+use Rattle.vm_spec.specs.Image.{with_in_use, place_of, program_of, with_result}
+use Rattle.vm_spec.specs.Frames.{has_frame_room, with_frame, stack_with_frame, has_frame, without_frame}
+use Rattle.vm_spec.specs.Frames.{data_from_frame}
 use Rattle.vm_spec.specs.FrameLaws.{length-stack_with_frame, length-data_from_frame}
 use Rattle.vm_spec.specs.WordLaws.{length-with_word, word_at-with_word, word_at-with_word_above, with_word-wrapped}
 use Rattle.posix_spec.specs.WellFormed.{IsImage, FitsProgram}

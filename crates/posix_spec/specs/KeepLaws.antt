@@ -11,7 +11,8 @@ use Rattle.posix_spec.specs.DeathSteps.{is_zombie}
 use Rattle.posix_spec.specs.RecordLaws.{each_with_record, record_of-with_record}
 use Rattle.posix_spec.specs.TestLaws.{children-with_record}
 use Rattle.posix_spec.specs.SignalLaws.{second_of}
-use Rattle.posix_spec.specs.WellFormed.{HasNumbers, HasLife, HasNoNotes, HasSignals, IsImage, HasCall, IsWellFormedRecord, HasSessions, IsFirstStatus, IsWellFormed}
+use Rattle.posix_spec.specs.WellFormed.{HasNumbers, HasLife, HasNoNotes, HasSignals, IsImage, HasCall}
+use Rattle.posix_spec.specs.WellFormed.{IsWellFormedRecord, HasSessions, IsFirstStatus, IsWellFormed}
 
 -- a record that is well formed once `due` is set only where a signal is deliverable
 pub record IsSound (script : Script) (used : Numbers) (p : ℕ) (r : Record) : Type 0 where

@@ -17,15 +17,18 @@ use Rattle.posix_spec.specs.Records.{settled, change_record}
 use Rattle.posix_spec.specs.Conditions.{next_of, for_group_step, answered}
 use Rattle.posix_spec.specs.Sending.{generated_by_life, generated, owed_more, sent}
 use Rattle.posix_spec.specs.GroupCalls.{killing_signal, kill_call, member_call, is_next_member, with_step, ends_with}
-use Rattle.posix_spec.specs.KillSteps.{Target, One, Group, Invalid, target_of, kill_answer, is_answer, killed, kill_step, in_call_for, member_by, member_step, group_done_by, group_done_step}
-use Rattle.posix_spec.specs.ConsoleSteps.{with_console, console_member_by, console_member_step, console_done_by, console_done_step}
+use Rattle.posix_spec.specs.KillSteps.{Target, One, Group, Invalid, target_of, kill_answer, is_answer, killed}
+use Rattle.posix_spec.specs.KillSteps.{kill_step, in_call_for, member_by, member_step, group_done_by, group_done_step}
+use Rattle.posix_spec.specs.ConsoleSteps.{with_console, console_member_by, console_member_step, console_done_by}
+use Rattle.posix_spec.specs.ConsoleSteps.{console_done_step}
 use Rattle.posix_spec.specs.Step.{member_of, group_done_of, posix_step}
 use Rattle.posix_spec.specs.RecordLaws.{same_record}
 use Rattle.posix_spec.specs.WellFormed.{IsGroupCall, IsWellFormedRecord, IsWellFormed, is_group_next, is_suspend_next}
 use Rattle.posix_spec.specs.KeepLaws.{Keeps, IsWellFormed-change}
 use Rattle.posix_spec.specs.CallLaws.{IsStepping, none_some, group_no_wait, same_group_call, running_not_zombie}
 use Rattle.posix_spec.specs.AnswerLaws.{after_none, after_if, after_value, kept_at, Acts, IsWellFormed-results}
-use Rattle.posix_spec.specs.SentLaws.{owed_for_kept, IsWellFormed-sent, Acts-sent, Acts-calling, Acts-stepping, after_call, after_group_step, after_numbers}
+use Rattle.posix_spec.specs.SentLaws.{owed_for_kept, IsWellFormed-sent, Acts-sent, Acts-calling, Acts-stepping}
+use Rattle.posix_spec.specs.SentLaws.{after_call, after_group_step, after_numbers}
 use Rattle.posix_spec.specs.GroupCallLaws.{used-sent, member_part, IsPartCall}
 use Rattle.posix_spec.specs.StateLaws.{IsWellFormed-console, IsGroupCall-with_step}
 

@@ -1,5 +1,6 @@
 -- An image stays one of a program of its script through a block of local instructions; and so does the first one.
-use Rattle.std.specs.Prelude.{◌≡◌, ℕ, zero, suc, ◌+◌, ◌-◌, ◌^◌, ◌<◌, ◌≤◌, ℤ, ◌+ℤ◌, pos, Bool, true, false, if◌then◌else◌, List, length, slice_index, slice_get, Some, IsTrue, IsSomeAnd, replicate}
+use Rattle.std.specs.Prelude.{◌≡◌, ℕ, zero, suc, ◌+◌, ◌-◌, ◌^◌, ◌<◌, ◌≤◌, ℤ, ◌+ℤ◌, pos, Bool, true, false}
+use Rattle.std.specs.Prelude.{if◌then◌else◌, List, length, slice_index, slice_get, Some, IsTrue, IsSomeAnd, replicate}
 use Rattle.std.specs.Int.{w32, cast_unsigned, cast_signed, int_wrap}
 use Rattle.std.proofs.Common.{refl, sym, ap, subst, ◌∙◌, arith, length-set, ltb-true, ltb-false}
 use Rattle.std.proofs.lemmas.Bool.{cond_both}
@@ -10,9 +11,11 @@ use Rattle.w32_base.specs.declared.instr.Instr.{Instr}
 use Rattle.w32_base.specs.declared.instr.Instr.TheVariants as instr
 use Rattle.w32_base.specs.declared.setup.Program.{Program}
 use Rattle.script_spec.specs.declared.script.Script.{Script}
-use Rattle.vm_spec.specs.Image.{Image, word_at, with_word, register_of, value_of, at_place, moved_on, in_use, with_in_use, place_of}
+use Rattle.vm_spec.specs.Image.{Image, word_at, with_word, register_of, value_of, at_place, moved_on, in_use}
+use Rattle.vm_spec.specs.Image.{with_in_use, place_of}
 use Rattle.vm_spec.specs.Faults.{instr_faults}
-use Rattle.vm_spec.specs.Step.{upcoming, LocalInstruction, after_local, after_local_at, local_step, block_of, address_of, low_byte, is_zero, is_below_zero}
+use Rattle.vm_spec.specs.Step.{upcoming, LocalInstruction, after_local, after_local_at, local_step, block_of}
+use Rattle.vm_spec.specs.Step.{address_of, low_byte, is_zero, is_below_zero}
 use Rattle.vm_spec.specs.Block.{block_length, block_image}
 use Rattle.vm_spec.specs.BlockLaws.{IsBlock-length}
 use Rattle.vm_spec.specs.StepLaws.{IsNextLocal, next_local}
@@ -21,7 +24,8 @@ use Rattle.vm_spec.specs.NewImage.{new_image}
 use Rattle.vm_spec.specs.WordLaws.{length-with_word, word_at-with_word, word_at-with_word_below}
 use Rattle.posix_spec.specs.Ranges.{WritesRegisters}
 use Rattle.posix_spec.specs.WellFormed.{IsImage, FitsProgram}
-use Rattle.posix_spec.specs.ImageLaws.{IsImage-register, IsImage-at_place, IsImage-moved_on, IsImage-heap, IsImage-stack, IsImage-with_in_use}
+use Rattle.posix_spec.specs.ImageLaws.{IsImage-register, IsImage-at_place, IsImage-moved_on, IsImage-heap}
+use Rattle.posix_spec.specs.ImageLaws.{IsImage-stack, IsImage-with_in_use}
 
 none_in_use : word_at (replicate 64 0) 36 ≡ 0
 unfolding word_at

@@ -13,7 +13,8 @@ use Rattle.posix_spec.specs.Numbers.{error_result, is_optional_number}
 use Rattle.posix_spec.specs.State.{Record, PosixState}
 use Rattle.posix_spec.specs.Conditions.{answered, answered_both}
 use Rattle.posix_spec.specs.OwnSteps.{told, get_step}
-use Rattle.posix_spec.specs.ForkSteps.{is_fork_cause, fork_fail_step, is_exec_cause, exec_result, exec_fail_step, program_named}
+use Rattle.posix_spec.specs.ForkSteps.{is_fork_cause, fork_fail_step, is_exec_cause, exec_result, exec_fail_step}
+use Rattle.posix_spec.specs.ForkSteps.{program_named}
 use Rattle.posix_spec.specs.Waits.{wait_of, has_nohang, has_looked_at_all, matching}
 use Rattle.posix_spec.specs.WaitSteps.{find_nothing, nothing_step, find_no_child, no_child_step}
 use Rattle.posix_spec.specs.Refusals.{check_of, refuse_step}

@@ -1,10 +1,12 @@
 -- Which signals may act on a process, and what they do (POSIX.1-2017, XSH 2.4).
-use Rattle.std.specs.Prelude.{ℕ, ◌-◌, Bool, true, false, ◌&&◌, List, Option, is_some, slice_get, slice_set, bit_and, bit_or}
+use Rattle.std.specs.Prelude.{ℕ, ◌-◌, Bool, true, false, ◌&&◌, List, Option, is_some, slice_get, slice_set, bit_and}
+use Rattle.std.specs.Prelude.{bit_or}
 use Rattle.std.specs.Option.{unwrap_or}
 use Rattle.std.specs.List.{list_any}
 use Rattle.w32_base.specs.declared.instr.Action.{Action}
 use Rattle.w32_base.specs.declared.instr.Action.TheVariants as action
-use Rattle.posix_spec.specs.Signals.{ByDefault, End, Ignore, StopByDefault, Continue, only, contains, outside, least, signals, kill_signal, default_of}
+use Rattle.posix_spec.specs.Signals.{ByDefault, End, Ignore, StopByDefault, Continue, only, contains, outside, least}
+use Rattle.posix_spec.specs.Signals.{signals, kill_signal, default_of}
 use Rattle.posix_spec.specs.State.{Life, Running, Stopped, Zombie, Record}
 
 abbrev pub is_running : Life → Bool

@@ -1,5 +1,6 @@
 -- Reads, writes and changes of the terminal keep a state well formed.
-use Rattle.std.specs.Prelude.{◌≡◌, ℕ, ◌<◌, ℤ, pos, negsuc, Bool, true, false, ◌&&◌, nat_eq, nat_le, if◌then◌else◌, List, ◌++◌, Some, None}
+use Rattle.std.specs.Prelude.{◌≡◌, ℕ, ◌<◌, ℤ, pos, negsuc, Bool, true, false, ◌&&◌, nat_eq, nat_le, if◌then◌else◌, List}
+use Rattle.std.specs.Prelude.{◌++◌, Some, None}
 use Rattle.std.proofs.Common.{refl, sym, ap, subst, ◌∙◌, arith, true≢false, eqb-true, leb-true}
 use Rattle.w32_base.specs.declared.event.Event.TheVariants as event
 use Rattle.w32_base.specs.declared.event.Errno.{Errno}
@@ -11,9 +12,12 @@ use Rattle.vm_spec.specs.Image.{value_of}
 use Rattle.posix_spec.specs.Numbers.{is_number, natural_of}
 use Rattle.posix_spec.specs.State.{Record, PosixState}
 use Rattle.posix_spec.specs.Groups.{has_member_in}
-use Rattle.posix_spec.specs.Checks.{Check, Allowed, Refused, SendsFirst, then_check, is_allowed, check_that, terminal_check, change_rule, new_flags, flags_rule, flags_check, foreground_rule, foreground_check, write_check}
+use Rattle.posix_spec.specs.Checks.{Check, Allowed, Refused, SendsFirst, then_check, is_allowed, check_that}
+use Rattle.posix_spec.specs.Checks.{terminal_check, change_rule, new_flags, flags_rule, flags_check, foreground_rule}
+use Rattle.posix_spec.specs.Checks.{foreground_check, write_check}
 use Rattle.posix_spec.specs.Conditions.{answered}
-use Rattle.posix_spec.specs.TerminalSteps.{with_foreground, tcset_step, with_flags, flags_step, with_output, is_written, write_step}
+use Rattle.posix_spec.specs.TerminalSteps.{with_foreground, tcset_step, with_flags, flags_step, with_output, is_written}
+use Rattle.posix_spec.specs.TerminalSteps.{write_step}
 use Rattle.posix_spec.specs.Step.{posix_step}
 use Rattle.posix_spec.specs.TestLaws.{some_record-is}
 use Rattle.posix_spec.specs.SignalLaws.{first_of, second_of}

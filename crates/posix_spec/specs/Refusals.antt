@@ -7,7 +7,8 @@ use Rattle.w32_base.specs.declared.instr.Instr.TheVariants as instr
 use Rattle.vm_spec.specs.Image.{value_of}
 use Rattle.posix_spec.specs.Numbers.{error_result}
 use Rattle.posix_spec.specs.State.{Record, PosixState}
-use Rattle.posix_spec.specs.Checks.{Check, Allowed, is_refused_with, check_that, terminal_check, foreground_check, flags_check, read_check, write_check}
+use Rattle.posix_spec.specs.Checks.{Check, Allowed, is_refused_with, check_that, terminal_check, foreground_check}
+use Rattle.posix_spec.specs.Checks.{flags_check, read_check, write_check}
 use Rattle.posix_spec.specs.Conditions.{answered}
 use Rattle.posix_spec.specs.Waits.{wait_flags}
 use Rattle.posix_spec.specs.SignalCalls.{action_check}

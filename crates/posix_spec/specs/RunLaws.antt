@@ -1,7 +1,9 @@
 -- Blocks of local instructions, reads and new programs keep a state well formed.
-use Rattle.std.specs.Prelude.{◌≡◌, ◌≢◌, ◌⊎◌, ℕ, ◌+◌, ◌≤◌, ℤ, pos, negsuc, min, Bool, true, false, ◌&&◌, nat_eq, nat_lt, if◌then◌else◌, List, [], ◌∷◌, length, slice_get, Option, Some, None, IfSome}
+use Rattle.std.specs.Prelude.{◌≡◌, ◌≢◌, ◌⊎◌, ℕ, ◌+◌, ◌≤◌, ℤ, pos, negsuc, min, Bool, true, false, ◌&&◌, nat_eq, nat_lt}
+use Rattle.std.specs.Prelude.{if◌then◌else◌, List, [], ◌∷◌, length, slice_get, Option, Some, None, IfSome}
 use Rattle.std.specs.Option.{unwrap_or}
-use Rattle.std.proofs.Common.{refl, sym, ap, subst, ◌∙◌, arith, true≢false, ltb-true, ltb-false, inl, inr, length-append, length-take, length-drop}
+use Rattle.std.proofs.Common.{refl, sym, ap, subst, ◌∙◌, arith, true≢false, ltb-true, ltb-false, inl, inr}
+use Rattle.std.proofs.Common.{length-append, length-take, length-drop}
 use Rattle.std.proofs.lemmas.Option.{slice_get_within, get_or_from_slice_get}
 use Rattle.w32_base.specs.Names.{is_same}
 use Rattle.w32_base.specs.declared.event.Event.TheVariants as event
@@ -25,7 +27,8 @@ use Rattle.posix_spec.specs.Records.{change_record}
 use Rattle.posix_spec.specs.Conditions.{code_at, code_of, call_of, next_of, may_go_on, may_act}
 use Rattle.posix_spec.specs.OwnSteps.{with_block, run_block_step, run_step}
 use Rattle.posix_spec.specs.Checks.{is_allowed, read_check, count_of}
-use Rattle.posix_spec.specs.TerminalSteps.{with_bytes, with_heap_bytes, with_read, read_from, after_read, line_by, line_step}
+use Rattle.posix_spec.specs.TerminalSteps.{with_bytes, with_heap_bytes, with_read, read_from, after_read, line_by}
+use Rattle.posix_spec.specs.TerminalSteps.{line_step}
 use Rattle.posix_spec.specs.DeathSteps.{is_fault}
 use Rattle.posix_spec.specs.Step.{posix_step}
 use Rattle.posix_spec.specs.RecordLaws.{same_record}
@@ -33,9 +36,11 @@ use Rattle.posix_spec.specs.SignalLaws.{first_of}
 use Rattle.posix_spec.specs.ImageLaws.{IsImage-heap, IsImage-with_result}
 use Rattle.posix_spec.specs.Ranges.{WritesRegisters, HasRegisters}
 use Rattle.posix_spec.specs.LocalLaws.{IsImage-block}
-use Rattle.posix_spec.specs.WellFormed.{IsUsed, IsWellFormedRecord, IsWellFormed, is_blocking_next, is_wait_next, is_group_next, is_suspend_next}
+use Rattle.posix_spec.specs.WellFormed.{IsUsed, IsWellFormedRecord, IsWellFormed, is_blocking_next, is_wait_next}
+use Rattle.posix_spec.specs.WellFormed.{is_group_next, is_suspend_next}
 use Rattle.posix_spec.specs.KeepLaws.{Keeps, IsWellFormed-change}
-use Rattle.posix_spec.specs.CallLaws.{IsCalling, IsActing-calling, Keeps-ended, next_call, none_some, running_not_zombie, running_is_live}
+use Rattle.posix_spec.specs.CallLaws.{IsCalling, IsActing-calling, Keeps-ended, next_call, none_some}
+use Rattle.posix_spec.specs.CallLaws.{running_not_zombie, running_is_live}
 use Rattle.posix_spec.specs.AnswerLaws.{after_none, after_if, after_test, after_value}
 use Rattle.posix_spec.specs.SentLaws.{after_call, after_process}
 use Rattle.posix_spec.specs.StateLaws.{IsWellFormed-parts}

@@ -16,7 +16,8 @@ use Rattle.posix_spec.specs.Step.{with_number, with_numbers}
 use Rattle.posix_spec.specs.RecordLaws.{same_record}
 use Rattle.posix_spec.specs.WellFormed.{IsWellFormed, is_suspend_next}
 use Rattle.posix_spec.specs.KeepLaws.{IsWellFormed-change}
-use Rattle.posix_spec.specs.CallLaws.{IsCalling, IsStepping, IsActing, own_call-is, group_step_call-is, IsActing-calling, IsActing-stepping}
+use Rattle.posix_spec.specs.CallLaws.{IsCalling, IsStepping, IsActing, own_call-is, group_step_call-is}
+use Rattle.posix_spec.specs.CallLaws.{IsActing-calling, IsActing-stepping}
 use Rattle.posix_spec.specs.AnswerLaws.{after_value, kept_at, Acts, Keeps-generated, Keeps-owed_more}
 
 -- ---- what stays of a process that acts

@@ -21,17 +21,22 @@ use Rattle.posix_spec.specs.Records.{with_record, without_record, change_record}
 use Rattle.posix_spec.specs.Checks.{is_allowed, read_check, count_of}
 use Rattle.posix_spec.specs.Conditions.{with_results, answered}
 use Rattle.posix_spec.specs.Sending.{owed_more, generated, sent}
-use Rattle.posix_spec.specs.ForkSteps.{NumberedProgram, is_fresh, child_of, with_used, fork_step, fork_fail_step, exec_to, exec_step, exec_fail_step, program_named}
+use Rattle.posix_spec.specs.ForkSteps.{NumberedProgram, is_fresh, child_of, with_used, fork_step, fork_fail_step}
+use Rattle.posix_spec.specs.ForkSteps.{exec_to, exec_step, exec_fail_step, program_named}
 use Rattle.posix_spec.specs.GroupCalls.{killing_signal, kill_call, member_call, is_next_member, with_step, ends_with}
-use Rattle.posix_spec.specs.KillSteps.{Target, target_of, in_call_for, One, Group, Invalid, killed, kill_step, member_by, member_step, group_done_by, group_done_step}
+use Rattle.posix_spec.specs.KillSteps.{Target, target_of, in_call_for, One, Group, Invalid, killed, kill_step}
+use Rattle.posix_spec.specs.KillSteps.{member_by, member_step, group_done_by, group_done_step}
 use Rattle.posix_spec.specs.SignalActs.{deliver_by}
 use Rattle.posix_spec.specs.SignalCalls.{with_mask, acting, mask_step, action_step, suspend_step, return_step}
 use Rattle.posix_spec.specs.Waits.{wait_of}
-use Rattle.posix_spec.specs.WaitSteps.{look_by, find_nothing, find_no_child, reap_by, reported, report_by, look_step, nothing_step, reap_step, report_step, no_child_step}
+use Rattle.posix_spec.specs.WaitSteps.{look_by, find_nothing, find_no_child, reap_by, reported, report_by, look_step}
+use Rattle.posix_spec.specs.WaitSteps.{nothing_step, reap_step, report_step, no_child_step}
 use Rattle.posix_spec.specs.DeathSteps.{with_status}
 use Rattle.posix_spec.specs.GroupSteps.{in_group, leading_session, setpgid_step, setsid_step}
-use Rattle.posix_spec.specs.TerminalSteps.{with_foreground, with_flags, with_read, read_from, line_by, with_output, tcset_step, flags_step, line_step, write_step}
-use Rattle.posix_spec.specs.ConsoleSteps.{with_console, console_member_by, console_done_by, console_member_step, console_done_step}
+use Rattle.posix_spec.specs.TerminalSteps.{with_foreground, with_flags, with_read, read_from, line_by, with_output}
+use Rattle.posix_spec.specs.TerminalSteps.{tcset_step, flags_step, line_step, write_step}
+use Rattle.posix_spec.specs.ConsoleSteps.{with_console, console_member_by, console_done_by, console_member_step}
+use Rattle.posix_spec.specs.ConsoleSteps.{console_done_step}
 use Rattle.posix_spec.specs.AnswerLaws.{after_none, after_some, after_if, after_test, after_value}
 use Rattle.posix_spec.specs.SignalLaws.{second_of}
 use Rattle.posix_spec.specs.SentLaws.{owed_for_kept}

@@ -1,5 +1,6 @@
 -- How signals act on a process (POSIX.1-2017, XSH 2.4.3 and 2.4.4).
-use Rattle.std.specs.Prelude.{ℕ, ◌-◌, Bool, true, false, ◌&&◌, not, nat_eq, nat_lt, if◌then◌else◌, Option, Some, None, bit_or}
+use Rattle.std.specs.Prelude.{ℕ, ◌-◌, Bool, true, false, ◌&&◌, not, nat_eq, nat_lt, if◌then◌else◌, Option, Some, None}
+use Rattle.std.specs.Prelude.{bit_or}
 use Rattle.std.specs.Option.{unwrap_or}
 use Rattle.w32_base.specs.declared.event.Delivery.{Delivery}
 use Rattle.w32_base.specs.declared.event.Delivery.TheVariants.{Plain, Interrupting}

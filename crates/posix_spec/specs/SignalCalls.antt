@@ -1,5 +1,6 @@
 -- The calls on a process's mask and actions (POSIX.1-2017, XSH sigprocmask, sigaction and sigsuspend).
-use Rattle.std.specs.Prelude.{ℕ, ℤ, pos, Bool, true, false, ◌&&◌, not, nat_eq, if◌then◌else◌, Option, Some, None, bit_or}
+use Rattle.std.specs.Prelude.{ℕ, ℤ, pos, Bool, true, false, ◌&&◌, not, nat_eq, if◌then◌else◌, Option, Some, None}
+use Rattle.std.specs.Prelude.{bit_or}
 use Rattle.std.specs.Int.{w32, cast_unsigned}
 use Rattle.w32_base.specs.declared.event.Errno.TheVariants as errno
 use Rattle.w32_base.specs.declared.event.NewAction.{NewAction}

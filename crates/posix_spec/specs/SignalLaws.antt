@@ -1,11 +1,13 @@
 -- Signal sets stay sets of signals, and masks stay without KILL and STOP.
-use Rattle.std.specs.Prelude.{◌≡◌, ◌≢◌, ℕ, ◌-◌, ◌*◌, ◌^◌, ◌≤◌, Bool, true, false, not, ◌&&◌, nat_eq, nat_le, bit_and, bit_or}
+use Rattle.std.specs.Prelude.{◌≡◌, ◌≢◌, ℕ, ◌-◌, ◌*◌, ◌^◌, ◌≤◌, Bool, true, false, not, ◌&&◌, nat_eq, nat_le, bit_and}
+use Rattle.std.specs.Prelude.{bit_or}
 use Rattle.std.specs.Int.{bit_at}
 use Rattle.std.proofs.Common.{refl, sym, ap, ◌∙◌, arith, eqb-true, true≢false, leb-true}
 use Rattle.std.proofs.lemmas.Bool.{cond_both}
 use Rattle.std.proofs.lemmas.Nat.{and_le_l, and_le_r, or_lt, pow_below}
 use Rattle.std.proofs.lemmas.Nat.Bits.{bit_at_and, bit_at_or, bit_at-pow_other, and_pow}
-use Rattle.posix_spec.specs.Signals.{is_signal, only, contains, all_signals, outside, taken_by, generate, lost_by, clean_mask, never_masked}
+use Rattle.posix_spec.specs.Signals.{is_signal, only, contains, all_signals, outside, taken_by, generate, lost_by}
+use Rattle.posix_spec.specs.Signals.{clean_mask, never_masked}
 use Rattle.posix_spec.specs.WellFormed.{IsSignalSet, IsMask}
 
 -- ---- both of two tests

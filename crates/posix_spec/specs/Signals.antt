@@ -1,5 +1,6 @@
 -- Signal sets (POSIX.1-2017, XSH 2.4): signal s from 1 to 31 is bit s - 1 of a number.
-use Rattle.std.specs.Prelude.{ℕ, zero, suc, ◌+◌, ◌-◌, ◌^◌, Bool, ◌&&◌, ◌||◌, not, nat_eq, nat_le, if◌then◌else◌, Option, Some, None, List, [], ◌∷◌, bit_and, bit_or}
+use Rattle.std.specs.Prelude.{ℕ, zero, suc, ◌+◌, ◌-◌, ◌^◌, Bool, ◌&&◌, ◌||◌, not, nat_eq, nat_le, if◌then◌else◌, Option}
+use Rattle.std.specs.Prelude.{Some, None, List, [], ◌∷◌, bit_and, bit_or}
 
 abbrev pub is_signal : ℕ → Bool
 is_signal s = nat_le 1 s && nat_le s 31

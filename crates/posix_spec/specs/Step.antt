@@ -15,7 +15,8 @@ use Rattle.posix_spec.specs.SignalCalls.{mask_step, action_step, suspend_step, r
 use Rattle.posix_spec.specs.SignalActs.{deliver_step, discard_step, stop_step, notify_step}
 use Rattle.posix_spec.specs.DeathSteps.{die_step, collect_step, host_step}
 use Rattle.posix_spec.specs.GroupSteps.{setpgid_step, setsid_step}
-use Rattle.posix_spec.specs.TerminalSteps.{tcset_step, flags_step, line_step, write_step, background_step, background_done_step}
+use Rattle.posix_spec.specs.TerminalSteps.{tcset_step, flags_step, line_step, write_step, background_step}
+use Rattle.posix_spec.specs.TerminalSteps.{background_done_step}
 use Rattle.posix_spec.specs.Refusals.{refuse_step}
 use Rattle.posix_spec.specs.ConsoleSteps.{key_step, console_member_step, console_done_step}
 

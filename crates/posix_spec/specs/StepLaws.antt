@@ -10,7 +10,8 @@ use Rattle.posix_spec.specs.Opening.{opening_of}
 use Rattle.posix_spec.specs.Run.{PosixStep, PosixRun}
 use Rattle.posix_spec.specs.Ranges.{HasRanges}
 use Rattle.posix_spec.specs.WellFormed.{IsWellFormed}
-use Rattle.posix_spec.specs.OwnLaws.{keeps-get, keeps-refuse, keeps-fork_fail, keeps-exec_fail, keeps-nothing, keeps-no_child}
+use Rattle.posix_spec.specs.OwnLaws.{keeps-get, keeps-refuse, keeps-fork_fail, keeps-exec_fail, keeps-nothing}
+use Rattle.posix_spec.specs.OwnLaws.{keeps-no_child}
 use Rattle.posix_spec.specs.SignalCallLaws.{keeps-mask}
 use Rattle.posix_spec.specs.ActionLaws.{keeps-action}
 use Rattle.posix_spec.specs.HandlerLaws.{keeps-suspend, keeps-return}

@@ -1,5 +1,6 @@
 -- A process at its terminal (POSIX.1-2017, XBD 11.1, XSH read, write, tcsetpgrp and tcsetattr).
-use Rattle.std.specs.Prelude.{ℕ, ◌+◌, ℤ, pos, Bool, ◌&&◌, nat_eq, if◌then◌else◌, List, [], ◌++◌, length, take, drop, Option, Some, None}
+use Rattle.std.specs.Prelude.{ℕ, ◌+◌, ℤ, pos, Bool, ◌&&◌, nat_eq, if◌then◌else◌, List, [], ◌++◌, length, take, drop}
+use Rattle.std.specs.Prelude.{Option, Some, None}
 use Rattle.w32_base.specs.Names.{is_same}
 use Rattle.w32_base.specs.declared.instr.Instr.{Instr}
 use Rattle.w32_base.specs.declared.instr.Instr.TheVariants as instr
@@ -10,7 +11,8 @@ use Rattle.tty_spec.specs.Discipline.{Taken, after_take}
 use Rattle.posix_spec.specs.Numbers.{for_value, is_number}
 use Rattle.posix_spec.specs.State.{GroupCall, Record, PosixState}
 use Rattle.posix_spec.specs.Records.{change_record}
-use Rattle.posix_spec.specs.Checks.{is_allowed, sent_first, count_of, foreground_check, flags_check, read_check, write_check}
+use Rattle.posix_spec.specs.Checks.{is_allowed, sent_first, count_of, foreground_check, flags_check, read_check}
+use Rattle.posix_spec.specs.Checks.{write_check}
 use Rattle.posix_spec.specs.Conditions.{with_results, call_ended, answered}
 use Rattle.posix_spec.specs.GroupCalls.{begun, background_call, is_complete}
 use Rattle.posix_spec.specs.KillSteps.{in_call_for}

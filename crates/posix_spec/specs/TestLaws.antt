@@ -7,7 +7,8 @@ use Rattle.std.specs.FinMap as map
 use Rattle.std.specs.FinMap.Entries.{find, put, where_key, same_entries, find-where_key, is_sorted-where_key}
 use Rattle.std.proofs.Common.{refl, sym, ap, ◌∙◌, arith}
 use Rattle.posix_spec.specs.State.{Record, PosixState, record_of}
-use Rattle.posix_spec.specs.Records.{settled, with_record, without_record, some_record, every_record, numbers_where, children}
+use Rattle.posix_spec.specs.Records.{settled, with_record, without_record, some_record, every_record, numbers_where}
+use Rattle.posix_spec.specs.Records.{children}
 use Rattle.posix_spec.specs.RecordLaws.{record_of-without_record}
 use Rattle.posix_spec.specs.EntryLaws.{Passes, passing, passing_found, each_found, each_of_found}
 use Rattle.posix_spec.specs.CountLaws.{one_if, counted_put, counted_over, counted_where_key}

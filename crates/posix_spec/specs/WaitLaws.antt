@@ -1,5 +1,6 @@
 -- Waits, and calls that block, keep a state well formed.
-use Rattle.std.specs.Prelude.{◌≡◌, ◌≢◌, ℕ, ℤ, pos, Bool, true, false, cond, ◌&&◌, not, nat_eq, Option, Some, None, is_some}
+use Rattle.std.specs.Prelude.{◌≡◌, ◌≢◌, ℕ, ℤ, pos, Bool, true, false, cond, ◌&&◌, not, nat_eq, Option, Some, None}
+use Rattle.std.specs.Prelude.{is_some}
 use Rattle.std.specs.FinSet as set
 use Rattle.std.proofs.Common.{refl, sym, ap, subst, ◌∙◌, arith, true≢false, eqb-true}
 use Rattle.w32_base.specs.declared.event.Event.TheVariants as event
@@ -8,19 +9,23 @@ use Rattle.w32_base.specs.declared.instr.Instr.TheVariants as instr
 use Rattle.script_spec.specs.declared.script.Script.{Script}
 use Rattle.vm_spec.specs.Step.{CallInstruction}
 use Rattle.posix_spec.specs.Numbers.{is_optional_number}
-use Rattle.posix_spec.specs.State.{Life, Running, Stopped, Zombie, Numbers, CallInProgress, NoCall, WaitCall, ForGroup, Record, PosixState, record_of}
+use Rattle.posix_spec.specs.State.{Life, Running, Stopped, Zombie, Numbers, CallInProgress, NoCall, WaitCall, ForGroup}
+use Rattle.posix_spec.specs.State.{Record, PosixState, record_of}
 use Rattle.posix_spec.specs.Records.{without_record, change_record}
 use Rattle.posix_spec.specs.Conditions.{is_group_call, answered_both}
 use Rattle.posix_spec.specs.Waits.{Wait, wait_of, is_match, death_to_report, has_report, looked_at}
-use Rattle.posix_spec.specs.WaitSteps.{is_looked_at, with_look, look_by, look_step, can_block, blocked, block_step, is_reaped, reap_by, reap_step, is_reported, reported, report_by, report_step}
+use Rattle.posix_spec.specs.WaitSteps.{is_looked_at, with_look, look_by, look_step, can_block, blocked, block_step}
+use Rattle.posix_spec.specs.WaitSteps.{is_reaped, reap_by, reap_step, is_reported, reported, report_by, report_step}
 use Rattle.posix_spec.specs.DeathSteps.{is_zombie}
 use Rattle.posix_spec.specs.Step.{posix_step}
 use Rattle.posix_spec.specs.RecordLaws.{same_record, each_without_record, record_of-without_record}
 use Rattle.posix_spec.specs.TestLaws.{children-without_record}
 use Rattle.posix_spec.specs.SignalLaws.{second_of}
-use Rattle.posix_spec.specs.WellFormed.{IsUsed, AreUsed, HasSignals, IsWellFormedRecord, IsFirstStatus, IsWellFormed, is_wait_next, is_blocking_next, is_report}
+use Rattle.posix_spec.specs.WellFormed.{IsUsed, AreUsed, HasSignals, IsWellFormedRecord, IsFirstStatus, IsWellFormed}
+use Rattle.posix_spec.specs.WellFormed.{is_wait_next, is_blocking_next, is_report}
 use Rattle.posix_spec.specs.KeepLaws.{Keeps, IsWellFormed-change}
-use Rattle.posix_spec.specs.CallLaws.{IsCalling, IsActing, IsActing-calling, none_some, wait_no_group, same_wait, running_not_zombie}
+use Rattle.posix_spec.specs.CallLaws.{IsCalling, IsActing, IsActing-calling, none_some, wait_no_group, same_wait}
+use Rattle.posix_spec.specs.CallLaws.{running_not_zombie}
 use Rattle.posix_spec.specs.AnswerLaws.{after_if, after_value, kept_at, Acts, IsWellFormed-results}
 use Rattle.posix_spec.specs.SentLaws.{Acts-calling, after_call, after_number}
 use Rattle.posix_spec.specs.GroupCallLaws.{AreUsed-empty, AreUsed-insert}

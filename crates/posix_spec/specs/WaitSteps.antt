@@ -1,5 +1,6 @@
 -- The events of a wait, and the blocking of calls (POSIX.1-2017, XSH waitpid, pause and read).
-use Rattle.std.specs.Prelude.{ℕ, ℤ, pos, Bool, true, false, ◌&&◌, not, nat_eq, if◌then◌else◌, length, Option, Some, None}
+use Rattle.std.specs.Prelude.{ℕ, ℤ, pos, Bool, true, false, ◌&&◌, not, nat_eq, if◌then◌else◌, length, Option, Some}
+use Rattle.std.specs.Prelude.{None}
 use Rattle.std.specs.FinSet as set
 use Rattle.w32_base.specs.declared.event.Errno.TheVariants as errno
 use Rattle.w32_base.specs.declared.instr.Instr.{Instr}
@@ -8,7 +9,8 @@ use Rattle.posix_spec.specs.Numbers.{for_value, is_optional_number, error_result
 use Rattle.posix_spec.specs.State.{WaitCall, Record, PosixState, record_of}
 use Rattle.posix_spec.specs.Records.{without_record, change_record}
 use Rattle.posix_spec.specs.Conditions.{inside_call, call_goes_on, answered, answered_both}
-use Rattle.posix_spec.specs.Waits.{Wait, wait_of, has_nohang, is_match, matching, change_to_report, death_to_report, has_report, looked_at, has_looked_at_all}
+use Rattle.posix_spec.specs.Waits.{Wait, wait_of, has_nohang, is_match, matching, change_to_report, death_to_report}
+use Rattle.posix_spec.specs.Waits.{has_report, looked_at, has_looked_at_all}
 use Rattle.posix_spec.specs.Checks.{can_block_in_read}
 
 -- look P C: child C matches, and the wait has nothing to report of it now

@@ -1,12 +1,14 @@
 -- What a wait asks for, and what it reports of a child (POSIX.1-2017, XSH waitpid).
-use Rattle.std.specs.Prelude.{ℕ, ◌+◌, ℤ, pos, negsuc, Bool, true, ◌&&◌, ◌||◌, not, nat_eq, nat_lt, if◌then◌else◌, List, length, Option, Some, None, is_some, bit_and}
+use Rattle.std.specs.Prelude.{ℕ, ◌+◌, ℤ, pos, negsuc, Bool, true, ◌&&◌, ◌||◌, not, nat_eq, nat_lt, if◌then◌else◌, List}
+use Rattle.std.specs.Prelude.{length, Option, Some, None, is_some, bit_and}
 use Rattle.std.specs.List.{list_all}
 use Rattle.std.specs.FinSet as set
 use Rattle.w32_base.specs.declared.instr.Instr.{Instr}
 use Rattle.w32_base.specs.declared.instr.Instr.TheVariants as instr
 use Rattle.vm_spec.specs.Image.{value_of}
 use Rattle.posix_spec.specs.Numbers.{natural_within}
-use Rattle.posix_spec.specs.State.{Life, Running, Stopped, Zombie, Numbers, CallInProgress, NoCall, WaitCall, ForGroup, Record, PosixState}
+use Rattle.posix_spec.specs.State.{Life, Running, Stopped, Zombie, Numbers, CallInProgress, NoCall, WaitCall, ForGroup}
+use Rattle.posix_spec.specs.State.{Record, PosixState}
 use Rattle.posix_spec.specs.Records.{numbers_of}
 
 -- a wait of a process in a group, with its selector and its flags

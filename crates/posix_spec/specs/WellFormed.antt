@@ -1,5 +1,6 @@
 -- What a well-formed state of the POSIX machine is: it holds at the opening and after every step.
-use Rattle.std.specs.Prelude.{◌≡◌, ◌≢◌, ◌⊎◌, ℕ, ◌+◌, ◌^◌, ◌<◌, ◌≤◌, Bool, true, false, ◌||◌, nat_eq, List, length, Option, Some, None, slice_get, IsTrue, IsSome, IsSomeAnd}
+use Rattle.std.specs.Prelude.{◌≡◌, ◌≢◌, ◌⊎◌, ℕ, ◌+◌, ◌^◌, ◌<◌, ◌≤◌, Bool, true, false, ◌||◌, nat_eq, List, length}
+use Rattle.std.specs.Prelude.{Option, Some, None, slice_get, IsTrue, IsSome, IsSomeAnd}
 use Rattle.std.specs.FinSet as set
 use Rattle.w32_base.specs.declared.instr.Action.{Action}
 use Rattle.w32_base.specs.declared.instr.Action.TheVariants.{Default}
@@ -11,7 +12,8 @@ use Rattle.vm_spec.specs.Step.{Upcoming, CallInstruction}
 use Rattle.tty_spec.specs.Terminal.{terminal_session}
 use Rattle.tty_spec.specs.TerminalLaws.{IsTerminal}
 use Rattle.posix_spec.specs.Signals.{contains, is_stop_signal}
-use Rattle.posix_spec.specs.State.{Life, Running, Stopped, Zombie, Numbers, GroupCall, CallInProgress, NoCall, WaitCall, ForGroup, Record, PosixState, record_of}
+use Rattle.posix_spec.specs.State.{Life, Running, Stopped, Zombie, Numbers, GroupCall, CallInProgress, NoCall, WaitCall}
+use Rattle.posix_spec.specs.State.{ForGroup, Record, PosixState, record_of}
 use Rattle.posix_spec.specs.Pending.{is_live, has_deliverable, action_in}
 use Rattle.posix_spec.specs.Records.{children}
 use Rattle.posix_spec.specs.Waits.{death_to_report}

@@ -1,5 +1,6 @@
 -- The line discipline: what a key does to the terminal, and what a read takes from it.
-use Rattle.std.specs.Prelude.{ℕ, Bool, not, nat_eq, nat_lt, if◌then◌else◌, List, [], ◌∷◌, ◌++◌, length, take, drop, Option, Some, None, bit_and}
+use Rattle.std.specs.Prelude.{ℕ, Bool, not, nat_eq, nat_lt, if◌then◌else◌, List, [], ◌∷◌, ◌++◌, length, take, drop}
+use Rattle.std.specs.Prelude.{Option, Some, None, bit_and}
 use Rattle.tty_spec.specs.Terminal.{Terminal}
 
 -- The flags, each a bit of the terminal's flags. ISIG: signal keys give signals. ECHO: keys are echoed. NOFLSH: a

@@ -1,5 +1,6 @@
 -- What a terminal keeps to: the sizes of its lines, and the ranges of its bytes and flags. Keys and reads keep it so.
-use Rattle.std.specs.Prelude.{◌≡◌, ℕ, ◌+◌, ◌≤◌, ◌<◌, Bool, true, false, ◌&&◌, nat_eq, nat_le, nat_lt, if◌then◌else◌, List, [], ◌∷◌, ◌++◌, length, take, drop, Option, Some, None, IfSome}
+use Rattle.std.specs.Prelude.{◌≡◌, ℕ, ◌+◌, ◌≤◌, ◌<◌, Bool, true, false, ◌&&◌, nat_eq, nat_le, nat_lt, if◌then◌else◌}
+use Rattle.std.specs.Prelude.{List, [], ◌∷◌, ◌++◌, length, take, drop, Option, Some, None, IfSome}
 use Rattle.std.specs.List.{list_all}
 use Rattle.std.proofs.Common.{arith, refl, sym, ◌∙◌, ap, length-append, length-take, length-drop}
 use Rattle.std.proofs.lemmas.Bool.{leb-true, ltb-true}
@@ -7,7 +8,9 @@ use Rattle.std.proofs.lemmas.Bool.Decides.{nat_tests}
 use Rattle.std.proofs.lemmas.List.{take-append-drop}
 use Rattle.std.proofs.lemmas.List.Folds.{list_all-append}
 use Rattle.tty_spec.specs.Terminal.{Terminal, opening_terminal}
-use Rattle.tty_spec.specs.Discipline.{KeyTaken, has_flag, noflsh_flag, isig_flag, signal_of_key, signalling, erasing, killing, ending, adding, editing, keying, left_before, taking, after_key, after_take}
+use Rattle.tty_spec.specs.Discipline.{KeyTaken, has_flag, noflsh_flag, isig_flag, signal_of_key, signalling, erasing}
+use Rattle.tty_spec.specs.Discipline.{killing, ending, adding, editing, keying, left_before, taking, after_key}
+use Rattle.tty_spec.specs.Discipline.{after_take}
 
 abbrev pub is_byte : ℕ → Bool
 is_byte byte = nat_lt byte 256

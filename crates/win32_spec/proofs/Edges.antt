@@ -9,7 +9,8 @@ use Rattle.w32_base.specs.declared.call.TtyOp.TheVariants as tty
 use Rattle.w32_base.specs.declared.own.Own.{Own}
 use Rattle.win32_spec.specs.Handles.{Handle}
 use Rattle.win32_spec.specs.Objects.{Owned, Abandoned}
-use Rattle.win32_spec.specs.State.{Object, Section, Event, Mutex, Pipe, ProcessObject, TerminalObject, NumberedObject, Thread, Alive, Process, Win32State}
+use Rattle.win32_spec.specs.State.{Object, Section, Event, Mutex, Pipe, ProcessObject, TerminalObject, NumberedObject}
+use Rattle.win32_spec.specs.State.{Thread, Alive, Process, Win32State}
 use Rattle.win32_spec.specs.Lookup.{process_of, object_of, with_object, with_own}
 use Rattle.win32_spec.specs.Ends.{with_end}
 use Rattle.win32_spec.specs.Ready.{is_ready, distance}

@@ -1,5 +1,6 @@
 -- What stays of every process that lives on, the caller's too, and what a process is made with.
-use Rattle.std.proofs.Common.{◌≡◌, inl, inr, ℕ, ◌+◌, Bool, true, false, if◌then◌else◌, nat_eq, List, Some, None, refl, sym, ap, ◌∙◌, subst}
+use Rattle.std.proofs.Common.{◌≡◌, inl, inr, ℕ, ◌+◌, Bool, true, false, if◌then◌else◌, nat_eq, List, Some, None, refl}
+use Rattle.std.proofs.Common.{sym, ap, ◌∙◌, subst}
 use Rattle.std.proofs.lemmas.Bool.{cases_eq}
 use Rattle.w32_base.specs.declared.call.Call.{Call}
 use Rattle.script_spec.specs.declared.script.Script.{Script}
@@ -10,7 +11,8 @@ use Rattle.win32_spec.specs.Ends.{held_objects, objects_left_by, ended_process}
 use Rattle.win32_spec.specs.Making.{opening_call, new_thread, new_threads, new_process}
 use Rattle.win32_spec.specs.Named.{handles_by}
 use Rattle.win32_spec.specs.WellFormed.{IsWellFormed}
-use Rattle.win32_spec.specs.LookupLaws.{same_some, not_none, changed_process, process_of-add_kept, process_of-add_new, process_of-add_other, rising-change_process}
+use Rattle.win32_spec.specs.LookupLaws.{same_some, not_none, changed_process, process_of-add_kept, process_of-add_new}
+use Rattle.win32_spec.specs.LookupLaws.{process_of-add_other, rising-change_process}
 use Rattle.win32_spec.specs.HeldLaws.{kept_process}
 use Rattle.win32_spec.specs.Tame.{posted_by, PostTheSame, ProcessBecomes}
 use Rattle.win32_spec.specs.TameLaws.{both_back, both_forth}

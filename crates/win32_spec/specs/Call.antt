@@ -7,10 +7,12 @@ use Rattle.w32_base.specs.declared.call.Reply.{Reply}
 use Rattle.script_spec.specs.declared.script.Script.{Script}
 use Rattle.win32_spec.specs.State.{Win32State}
 use Rattle.win32_spec.specs.WordCalls.{LoadStep, ExchangeStep, AddStep}
-use Rattle.win32_spec.specs.ProcessCalls.{CreateStep, ResumeStep, SuspendStep, OpenStep, ExitCodeStep, TerminateStep, ExitSelfStep}
+use Rattle.win32_spec.specs.ProcessCalls.{CreateStep, ResumeStep, SuspendStep, OpenStep, ExitCodeStep, TerminateStep}
+use Rattle.win32_spec.specs.ProcessCalls.{ExitSelfStep}
 use Rattle.win32_spec.specs.MemoryCalls.{RunStep, ReadMemoryStep, WriteMemoryStep}
 use Rattle.win32_spec.specs.Placing.{ModuleStep}
-use Rattle.win32_spec.specs.ObjectCalls.{EventStep, SetStep, ResetStep, MutexStep, ReleaseStep, PipeStep, PutStep, GetStep}
+use Rattle.win32_spec.specs.ObjectCalls.{EventStep, SetStep, ResetStep, MutexStep, ReleaseStep, PipeStep, PutStep}
+use Rattle.win32_spec.specs.ObjectCalls.{GetStep}
 use Rattle.win32_spec.specs.HandleCalls.{DupStep, CloseStep, WaitStep}
 use Rattle.win32_spec.specs.TerminalCalls.{TtyStep}
 

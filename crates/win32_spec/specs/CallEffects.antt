@@ -1,5 +1,6 @@
 -- Each call makes one of the changes: the calls that leave handles, lives and kinds alone.
-use Rattle.std.proofs.Common.{◌≡◌, ℕ, ◌+◌, ◌%◌, ◌^◌, Bool, true, false, if◌then◌else◌, nat_eq, nat_lt, List, length, Option, Some, None, MatchOption, MatchBool, slice_index, slice_set, refl, sym, ap, subst}
+use Rattle.std.proofs.Common.{◌≡◌, ℕ, ◌+◌, ◌%◌, ◌^◌, Bool, true, false, if◌then◌else◌, nat_eq, nat_lt, List, length}
+use Rattle.std.proofs.Common.{Option, Some, None, MatchOption, MatchBool, slice_index, slice_set, refl, sym, ap, subst}
 use Rattle.std.proofs.lemmas.List.{length-set}
 use Rattle.tty_spec.specs.Terminal.{Terminal}
 use Rattle.w32_base.specs.declared.call.Call.{Call}
@@ -9,7 +10,8 @@ use Rattle.script_spec.specs.declared.script.Script.{Script}
 use Rattle.win32_spec.specs.Objects.{EventState, Ownership, exchanged, added}
 use Rattle.win32_spec.specs.State.{Object, Section, Event, Mutex, Pipe, ProcessObject, TerminalObject, Win32State}
 use Rattle.win32_spec.specs.Lookup.{object_of, with_object}
-use Rattle.win32_spec.specs.Named.{named_by, number_or_zero, object_number_by, object_at, object_by, section_named, event_named, mutex_named, pipe_named, process_named, terminal_named}
+use Rattle.win32_spec.specs.Named.{named_by, number_or_zero, object_number_by, object_at, object_by, section_named}
+use Rattle.win32_spec.specs.Named.{event_named, mutex_named, pipe_named, process_named, terminal_named}
 use Rattle.win32_spec.specs.WordCalls.{words_by, after_exchange, after_add, LoadStep, ExchangeStep, AddStep}
 use Rattle.win32_spec.specs.Tame.{ObjectBecomes}
 use Rattle.win32_spec.specs.TameSteps.{tame_same, tame_object}

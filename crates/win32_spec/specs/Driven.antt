@@ -1,6 +1,7 @@
 -- A machine whose threads are driven by parts: each thread's calls and events come from its own part, which is given
 -- nothing but the bytes of its own process, the setup and the replies to its calls.
-use Rattle.std.specs.Prelude.{◌≡◌, ◌≢◌, ◌⊎◌, ℕ, zero, suc, ◌+◌, ◌*◌, Bool, true, false, nat_eq, nat_lt, if◌then◌else◌, List, [], ◌∷◌, Option, Some, None, MatchBool, MatchOption}
+use Rattle.std.specs.Prelude.{◌≡◌, ◌≢◌, ◌⊎◌, ℕ, zero, suc, ◌+◌, ◌*◌, Bool, true, false, nat_eq, nat_lt, if◌then◌else◌}
+use Rattle.std.specs.Prelude.{List, [], ◌∷◌, Option, Some, None, MatchBool, MatchOption}
 use Rattle.w32_base.specs.declared.call.Call.{Call}
 use Rattle.w32_base.specs.declared.call.Reply.{Reply}
 use Rattle.w32_base.specs.declared.entry.Directive.{Directive}
@@ -13,7 +14,8 @@ use Rattle.w32_base.specs.declared.part.After.{After}
 use Rattle.w32_base.specs.declared.setup.Setup.{Setup}
 use Rattle.script_spec.specs.declared.script.Script.{Script}
 use Rattle.win32_spec.specs.State.{Thread, Process, Win32State}
-use Rattle.win32_spec.specs.Lookup.{process_of, is_live, process_in, thread_at, number_in, memory_by, with_posted, with_own}
+use Rattle.win32_spec.specs.Lookup.{process_of, is_live, process_in, thread_at, number_in, memory_by, with_posted}
+use Rattle.win32_spec.specs.Lookup.{with_own}
 use Rattle.win32_spec.specs.Ready.{is_ready}
 use Rattle.win32_spec.specs.Opening.{IsOpening}
 use Rattle.win32_spec.specs.Run.{PostedStep, EndStep, with_key}

@@ -4,15 +4,18 @@ use Rattle.std.proofs.lemmas.Bool.{cases_eq}
 use Rattle.script_spec.specs.declared.script.Script.{Script}
 use Rattle.win32_spec.specs.Handles.{Handle, handle_of, with_handle, AreRisingFrom, IsLowestFree}
 use Rattle.win32_spec.specs.State.{Object, ProcessObject, Process, Win32State}
-use Rattle.win32_spec.specs.Lookup.{is_alive, process_of, object_number, object_of, change_process, add_object, with_handles, with_new_object, IsFresh}
+use Rattle.win32_spec.specs.Lookup.{is_alive, process_of, object_number, object_of, change_process, add_object}
+use Rattle.win32_spec.specs.Lookup.{with_handles, with_new_object, IsFresh}
 use Rattle.win32_spec.specs.Ends.{is_object_held, is_process_held}
 use Rattle.win32_spec.specs.Named.{handles_of, handles_by, is_full}
 use Rattle.win32_spec.specs.WellFormed.{IsListed, IsLiveProcess, IsObject, only_number, IsFormed, IsWellFormed}
-use Rattle.win32_spec.specs.LookupLaws.{same_some, not_none, process_of-change_same, process_of-change_other, changed_process}
+use Rattle.win32_spec.specs.LookupLaws.{same_some, not_none, process_of-change_same, process_of-change_other}
+use Rattle.win32_spec.specs.LookupLaws.{changed_process}
 use Rattle.win32_spec.specs.ObjectLaws.{object_of-add_new, object_of-add_other}
 use Rattle.win32_spec.specs.HandleLaws.{handle_of-with_same, handle_of-with_other, rising-with, has_room, lowest-fits}
 use Rattle.win32_spec.specs.HeldLaws.{IsHeldBy, held-by, is-held, process_held-by, is-process_held}
-use Rattle.win32_spec.specs.FormedLaws.{of_live, have_rising, to_listed, from_listed, formed-with_handles, formed-with_new_object}
+use Rattle.win32_spec.specs.FormedLaws.{of_live, have_rising, to_listed, from_listed, formed-with_handles}
+use Rattle.win32_spec.specs.FormedLaws.{formed-with_new_object}
 
 -- A live process gets more handles in a formed state: each object is held there, or by one of these handles.
 pub wellformed-more : (script : Script) (s : Win32State) (w : ℕ) (p : Process) (hs : List Handle) → IsFormed script s

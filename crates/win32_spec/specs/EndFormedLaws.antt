@@ -3,11 +3,13 @@ use Rattle.std.proofs.Common.{◌≡◌, ◌≢◌, ◌⊎◌, inl, inr, ℕ, tr
 use Rattle.std.proofs.lemmas.Bool.{cases_eq}
 use Rattle.script_spec.specs.declared.script.Script.{Script}
 use Rattle.win32_spec.specs.Objects.{Free, Owned, Abandoned}
-use Rattle.win32_spec.specs.State.{Object, Section, Event, Mutex, Pipe, ProcessObject, TerminalObject, Process, Win32State}
+use Rattle.win32_spec.specs.State.{Object, Section, Event, Mutex, Pipe, ProcessObject, TerminalObject, Process}
+use Rattle.win32_spec.specs.State.{Win32State}
 use Rattle.win32_spec.specs.Lookup.{process_of, object_number, change_process}
 use Rattle.win32_spec.specs.Ends.{object_left_by, objects_left_by, ended_process, with_ended}
 use Rattle.win32_spec.specs.WellFormed.{has_ends, IsListed, IsProcessBy, IsObject, only_number, IsFormed}
-use Rattle.win32_spec.specs.LookupLaws.{same, differs, process_of-change_same, process_of-change_other, changed_process, rising-change_process}
+use Rattle.win32_spec.specs.LookupLaws.{same, differs, process_of-change_same, process_of-change_other, changed_process}
+use Rattle.win32_spec.specs.LookupLaws.{rising-change_process}
 use Rattle.win32_spec.specs.ObjectLaws.{object_of-left, left_object, rising-left}
 use Rattle.win32_spec.specs.FormedLaws.{with_objects, to_listed, from_listed}
 

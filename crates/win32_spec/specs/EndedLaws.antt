@@ -1,5 +1,6 @@
 -- A process that has ended stays as it is while its object is listed, and never lives again.
-use Rattle.std.proofs.Common.{◌≡◌, ◌≢◌, ◌⊎◌, inl, inr, ℕ, ◌+◌, ◌≤◌, ◌<◌, Bool, true, false, List, Option, Some, None, refl, sym, ap, ◌∙◌, subst, arith}
+use Rattle.std.proofs.Common.{◌≡◌, ◌≢◌, ◌⊎◌, inl, inr, ℕ, ◌+◌, ◌≤◌, ◌<◌, Bool, true, false, List, Option, Some, None}
+use Rattle.std.proofs.Common.{refl, sym, ap, ◌∙◌, subst, arith}
 use Rattle.w32_base.specs.declared.call.Call.{Call}
 use Rattle.script_spec.specs.declared.script.Script.{Script}
 use Rattle.win32_spec.specs.Handles.{Handle, with_handle, without_handle, listed_handles}
@@ -9,7 +10,8 @@ use Rattle.win32_spec.specs.Ends.{is_process_held, held_objects, kept_processes,
 use Rattle.win32_spec.specs.Making.{new_process}
 use Rattle.win32_spec.specs.Named.{handles_by}
 use Rattle.win32_spec.specs.WellFormed.{AreRisingProcesses, IsWellFormed}
-use Rattle.win32_spec.specs.LookupLaws.{same_some, not_none, or_right, process_of-change_other, process_of-add_kept, process_of-add_other, rising-change_process}
+use Rattle.win32_spec.specs.LookupLaws.{same_some, not_none, or_right, process_of-change_other, process_of-add_kept}
+use Rattle.win32_spec.specs.LookupLaws.{process_of-add_other, rising-change_process}
 use Rattle.win32_spec.specs.HeldLaws.{kept_process, kept_process-stays}
 use Rattle.win32_spec.specs.Tame.{ProcessBecomes}
 use Rattle.win32_spec.specs.TameLaws.{both_back, both_forth}

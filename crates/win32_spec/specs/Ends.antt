@@ -2,7 +2,8 @@
 use Rattle.std.specs.Prelude.{ℕ, Bool, false, ◌&&◌, ◌||◌, nat_eq, if◌then◌else◌, List, [], ◌∷◌}
 use Rattle.win32_spec.specs.Handles.{Handle}
 use Rattle.win32_spec.specs.Objects.{left_by}
-use Rattle.win32_spec.specs.State.{Object, Section, Event, Mutex, Pipe, ProcessObject, TerminalObject, NumberedObject, Ended, Process, Win32State}
+use Rattle.win32_spec.specs.State.{Object, Section, Event, Mutex, Pipe, ProcessObject, TerminalObject, NumberedObject}
+use Rattle.win32_spec.specs.State.{Ended, Process, Win32State}
 use Rattle.win32_spec.specs.Lookup.{is_alive, no_memory, object_number, change_process}
 
 -- whether a handle of a list names the object

@@ -7,7 +7,8 @@ use Rattle.w32_base.specs.declared.entry.Directive.TheVariants as directive
 use Rattle.w32_base.specs.declared.entry.Outcome.{Outcome}
 use Rattle.script_spec.specs.declared.script.Script.{Script}
 use Rattle.win32_spec.specs.State.{Object, Process, Win32State}
-use Rattle.win32_spec.specs.Lookup.{is_alive, process_of, is_live, process_in, number_of, number_in, change_process, change_thread, object_of}
+use Rattle.win32_spec.specs.Lookup.{is_alive, process_of, is_live, process_in, number_of, number_in, change_process}
+use Rattle.win32_spec.specs.Lookup.{change_thread, object_of}
 use Rattle.win32_spec.specs.Ready.{is_ready}
 use Rattle.win32_spec.specs.Ends.{is_process_held}
 use Rattle.win32_spec.specs.Run.{Acts, ReadyTurn, EndStep, StepBy, ended_from_outside}

@@ -1,13 +1,18 @@
 -- Well-formed states stay so under a change of handles and with one more object.
-use Rattle.std.proofs.Common.{◌≡◌, ◌≢◌, ◌⊎◌, inl, inr, ℕ, true, List, Option, Some, None, MatchOption, refl, sym, ap, ◌∙◌, subst, arith}
+use Rattle.std.proofs.Common.{◌≡◌, ◌≢◌, ◌⊎◌, inl, inr, ℕ, true, List, Option, Some, None, MatchOption, refl, sym, ap}
+use Rattle.std.proofs.Common.{◌∙◌, subst, arith}
 use Rattle.std.proofs.lemmas.Bool.{cases_eq}
 use Rattle.script_spec.specs.declared.script.Script.{Script}
 use Rattle.win32_spec.specs.Handles.{Handle, handle_of, AreRisingFrom}
 use Rattle.win32_spec.specs.Objects.{Free, Owned, Abandoned}
-use Rattle.win32_spec.specs.State.{Object, Section, Event, Mutex, Pipe, ProcessObject, TerminalObject, NumberedObject, Life, Alive, Ended, Process, Win32State}
-use Rattle.win32_spec.specs.Lookup.{is_alive, process_of, is_live, object_number, object_of, change_process, add_object, with_handles, with_new_object, IsFresh}
-use Rattle.win32_spec.specs.WellFormed.{IsHost, IsLayerProcess, FitsEnd, IsListed, IsLiveProcess, IsProcessBy, IsObject, only_number, IsFormed}
-use Rattle.win32_spec.specs.LookupLaws.{same_some, not_none, process_of-change_same, process_of-change_other, changed_process, rising-change_process}
+use Rattle.win32_spec.specs.State.{Object, Section, Event, Mutex, Pipe, ProcessObject, TerminalObject, NumberedObject}
+use Rattle.win32_spec.specs.State.{Life, Alive, Ended, Process, Win32State}
+use Rattle.win32_spec.specs.Lookup.{is_alive, process_of, is_live, object_number, object_of, change_process, add_object}
+use Rattle.win32_spec.specs.Lookup.{with_handles, with_new_object, IsFresh}
+use Rattle.win32_spec.specs.WellFormed.{IsHost, IsLayerProcess, FitsEnd, IsListed, IsLiveProcess, IsProcessBy, IsObject}
+use Rattle.win32_spec.specs.WellFormed.{only_number, IsFormed}
+use Rattle.win32_spec.specs.LookupLaws.{same_some, not_none, process_of-change_same, process_of-change_other}
+use Rattle.win32_spec.specs.LookupLaws.{changed_process, rising-change_process}
 use Rattle.win32_spec.specs.ObjectLaws.{object_of-add_new, object_of-add_other, rising-add_object}
 use Rattle.win32_spec.specs.HeldLaws.{HaveRisingHandles}
 

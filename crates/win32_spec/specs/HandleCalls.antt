@@ -1,5 +1,6 @@
 -- The calls on handles of any kind: `dup`, `close` and `wait`.
-use Rattle.std.specs.Prelude.{ℕ, ◌+◌, Bool, false, if◌then◌else◌, List, [], ◌∷◌, Option, Some, None, slice_index, MatchBool, MatchOption}
+use Rattle.std.specs.Prelude.{ℕ, ◌+◌, Bool, false, if◌then◌else◌, List, [], ◌∷◌, Option, Some, None, slice_index}
+use Rattle.std.specs.Prelude.{MatchBool, MatchOption}
 use Rattle.w32_base.specs.declared.call.Reply.{Reply}
 use Rattle.w32_base.specs.declared.call.Reply.TheVariants as reply
 use Rattle.win32_spec.specs.Handles.{Handle, handle_of, without_handle}
@@ -8,7 +9,8 @@ use Rattle.win32_spec.specs.State.{Object, Section, Event, Mutex, Pipe, ProcessO
 use Rattle.win32_spec.specs.Lookup.{with_handles, with_object}
 use Rattle.win32_spec.specs.Ends.{swept}
 use Rattle.win32_spec.specs.Ready.{is_handle_signalled}
-use Rattle.win32_spec.specs.Named.{handles_by, named_by, object_number_by, object_by, process_named, has_absent, Gives, GetsHandle}
+use Rattle.win32_spec.specs.Named.{handles_by, named_by, object_number_by, object_by, process_named, has_absent, Gives}
+use Rattle.win32_spec.specs.Named.{GetsHandle}
 use Rattle.win32_spec.specs.ProcessCalls.{live_process}
 
 -- `dup H N`: a handle of the caller on what handle N of process H is, by the same end or face. Refusals: badhandle of

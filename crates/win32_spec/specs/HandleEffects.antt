@@ -1,5 +1,6 @@
 -- Each call makes one of the changes: `open`, `dup`, `close` and `create`.
-use Rattle.std.proofs.Common.{◌≡◌, inl, inr, ℕ, ◌+◌, Bool, true, false, if◌then◌else◌, List, [], ◌∷◌, Some, None, slice_get, refl, sym, ap, ◌∙◌, arith}
+use Rattle.std.proofs.Common.{◌≡◌, inl, inr, ℕ, ◌+◌, Bool, true, false, if◌then◌else◌, List, [], ◌∷◌, Some, None}
+use Rattle.std.proofs.Common.{slice_get, refl, sym, ap, ◌∙◌, arith}
 use Rattle.std.proofs.lemmas.Bool.{cases_eq}
 use Rattle.w32_base.specs.declared.call.Call.{Call}
 use Rattle.w32_base.specs.declared.call.Call.TheVariants as call
@@ -7,7 +8,8 @@ use Rattle.w32_base.specs.declared.call.Reply.{Reply}
 use Rattle.w32_base.specs.declared.call.Reply.TheVariants as reply
 use Rattle.script_spec.specs.declared.script.Script.{Script}
 use Rattle.win32_spec.specs.Handles.{handle_of}
-use Rattle.win32_spec.specs.State.{Object, Section, Event, Mutex, Pipe, ProcessObject, TerminalObject, NumberedObject, Win32State}
+use Rattle.win32_spec.specs.State.{Object, Section, Event, Mutex, Pipe, ProcessObject, TerminalObject, NumberedObject}
+use Rattle.win32_spec.specs.State.{Win32State}
 use Rattle.win32_spec.specs.Lookup.{process_of, is_live, object_of}
 use Rattle.win32_spec.specs.Ends.{is_object_of}
 use Rattle.win32_spec.specs.Named.{handles_by, named_by, object_by, process_named, is_full, has_absent, GetsHandle}

@@ -1,8 +1,10 @@
 -- Laws of a list of handles.
-use Rattle.std.proofs.Common.{◌≡◌, ◌≢◌, ◌⊎◌, inl, inr, ℕ, ◌+◌, ◌≤◌, ◌<◌, Bool, true, false, if◌then◌else◌, nat_eq, List, [], ◌∷◌, length, Some, None, IsSome, refl, sym, ap, ◌∙◌, arith}
+use Rattle.std.proofs.Common.{◌≡◌, ◌≢◌, ◌⊎◌, inl, inr, ℕ, ◌+◌, ◌≤◌, ◌<◌, Bool, true, false, if◌then◌else◌, nat_eq, List}
+use Rattle.std.proofs.Common.{[], ◌∷◌, length, Some, None, IsSome, refl, sym, ap, ◌∙◌, arith}
 use Rattle.std.proofs.lemmas.Bool.{cases_eq, cases_lt}
 use Rattle.std.proofs.lemmas.Bool.Decides.{nat_tests}
-use Rattle.win32_spec.specs.Handles.{Handle, handle_of, with_handle, without_handle, listed_handles, is_listed, AreRisingFrom, IsLowestFree}
+use Rattle.win32_spec.specs.Handles.{Handle, handle_of, with_handle, without_handle, listed_handles, is_listed}
+use Rattle.win32_spec.specs.Handles.{AreRisingFrom, IsLowestFree}
 use Rattle.win32_spec.specs.Lookup.{object_number}
 use Rattle.win32_spec.specs.Ends.{names_object}
 use Rattle.win32_spec.specs.Named.{is_full}

@@ -1,5 +1,6 @@
 -- The handles of a process: pairs of a number and the object that it names, in rising order of the numbers.
-use Rattle.std.specs.Prelude.{◌≡◌, ℕ, ◌+◌, ◌≤◌, ◌<◌, Bool, nat_eq, nat_lt, if◌then◌else◌, List, [], ◌∷◌, Option, Some, None, IsSome}
+use Rattle.std.specs.Prelude.{◌≡◌, ℕ, ◌+◌, ◌≤◌, ◌<◌, Bool, nat_eq, nat_lt, if◌then◌else◌, List, [], ◌∷◌, Option, Some}
+use Rattle.std.specs.Prelude.{None, IsSome}
 
 -- one handle: its number, and the number of the object with the end of a pipe or the face of the terminal
 pub record Handle : Type 0 where

@@ -1,12 +1,16 @@
 -- Laws of what somebody holds, and of what is left without the rest.
-use Rattle.std.proofs.Common.{◌≡◌, ◌⊎◌, inl, inr, ℕ, ◌+◌, Bool, true, false, ◌&&◌, ◌||◌, if◌then◌else◌, nat_eq, List, [], ◌∷◌, Some, refl, sym, ap, ◌∙◌, arith}
+use Rattle.std.proofs.Common.{◌≡◌, ◌⊎◌, inl, inr, ℕ, ◌+◌, Bool, true, false, ◌&&◌, ◌||◌, if◌then◌else◌, nat_eq, List}
+use Rattle.std.proofs.Common.{[], ◌∷◌, Some, refl, sym, ap, ◌∙◌, arith}
 use Rattle.std.proofs.lemmas.Bool.{cases_eq}
 use Rattle.win32_spec.specs.Handles.{handle_of, AreRisingFrom}
-use Rattle.win32_spec.specs.State.{Object, Section, Event, Mutex, Pipe, ProcessObject, TerminalObject, NumberedObject, Process}
+use Rattle.win32_spec.specs.State.{Object, Section, Event, Mutex, Pipe, ProcessObject, TerminalObject, NumberedObject}
+use Rattle.win32_spec.specs.State.{Process}
 use Rattle.win32_spec.specs.Lookup.{is_alive, process_of, object_number, object_of}
-use Rattle.win32_spec.specs.Ends.{names_object, is_object_held, held_objects, is_object_of, is_process_held, kept_processes}
+use Rattle.win32_spec.specs.Ends.{names_object, is_object_held, held_objects, is_object_of, is_process_held}
+use Rattle.win32_spec.specs.Ends.{kept_processes}
 use Rattle.win32_spec.specs.WellFormed.{AreRisingProcesses, AreRisingObjects}
-use Rattle.win32_spec.specs.LookupLaws.{same, differs, or_true, and_true, or_left, or_right, not_none, rising-lower, rising-absent}
+use Rattle.win32_spec.specs.LookupLaws.{same, differs, or_true, and_true, or_left, or_right, not_none, rising-lower}
+use Rattle.win32_spec.specs.LookupLaws.{rising-absent}
 use Rattle.win32_spec.specs.ObjectLaws.{rising_objects-bound, rising_objects-lower}
 use Rattle.win32_spec.specs.HandleLaws.{named_object, names-object}
 

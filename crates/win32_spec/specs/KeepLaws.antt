@@ -1,5 +1,6 @@
 -- Each call leaves a well-formed state well formed.
-use Rattle.std.proofs.Common.{◌≡◌, ◌≢◌, inl, inr, ℕ, ◌+◌, ◌≤◌, true, false, List, [], length, Some, None, slice_get, sym, ap, ◌∙◌, subst, arith}
+use Rattle.std.proofs.Common.{◌≡◌, ◌≢◌, inl, inr, ℕ, ◌+◌, ◌≤◌, true, false, List, [], length, Some, None, slice_get}
+use Rattle.std.proofs.Common.{sym, ap, ◌∙◌, subst, arith}
 use Rattle.std.proofs.lemmas.Bool.{cases_eq}
 use Rattle.w32_base.specs.declared.call.Call.{Call}
 use Rattle.w32_base.specs.declared.call.Reply.{Reply}
@@ -7,23 +8,29 @@ use Rattle.w32_base.specs.declared.setup.Program.{Program}
 use Rattle.script_spec.specs.declared.script.Script.{Script}
 use Rattle.win32_spec.specs.Handles.{Handle, handle_of, with_handle, without_handle, listed_handles, AreRisingFrom}
 use Rattle.win32_spec.specs.State.{Pipe, ProcessObject, NumberedObject, Process, Win32State}
-use Rattle.win32_spec.specs.Lookup.{is_alive, process_of, is_live, object_number, object_of, add_process, add_object, with_handles, with_new_object, IsLowestFreeSlot}
+use Rattle.win32_spec.specs.Lookup.{is_alive, process_of, is_live, object_number, object_of, add_process, add_object}
+use Rattle.win32_spec.specs.Lookup.{with_handles, with_new_object, IsLowestFreeSlot}
 use Rattle.win32_spec.specs.Ends.{is_object_held, swept, with_ended, with_end}
 use Rattle.win32_spec.specs.Named.{handles_of, handles_by, is_full}
 use Rattle.win32_spec.specs.Making.{new_process}
 use Rattle.win32_spec.specs.ProcessCalls.{with_made, IsMade}
 use Rattle.win32_spec.specs.ObjectCalls.{IsNewPipe}
 use Rattle.win32_spec.specs.WellFormed.{IsListed, IsLiveProcess, IsWellFormed}
-use Rattle.win32_spec.specs.LookupLaws.{same_some, not_none, process_of-add_kept, process_of-add_new, process_of-add_other, rising-absent}
+use Rattle.win32_spec.specs.LookupLaws.{same_some, not_none, process_of-add_kept, process_of-add_new}
+use Rattle.win32_spec.specs.LookupLaws.{process_of-add_other, rising-absent}
 use Rattle.win32_spec.specs.ObjectLaws.{object_of-add_new, object_of-add_other}
-use Rattle.win32_spec.specs.HandleLaws.{handle_of-with_same, handle_of-with_other, handle_of-without_same, handle_of-without_other, rising-with, rising-without, rising-listed, listed_handle, has_room, lowest-fits, length-with}
+use Rattle.win32_spec.specs.HandleLaws.{handle_of-with_same, handle_of-with_other, handle_of-without_same}
+use Rattle.win32_spec.specs.HandleLaws.{handle_of-without_other, rising-with, rising-without, rising-listed}
+use Rattle.win32_spec.specs.HandleLaws.{listed_handle, has_room, lowest-fits, length-with}
 use Rattle.win32_spec.specs.HeldLaws.{IsHeldBy, held-by, is-held, process_held-by, is-process_held}
-use Rattle.win32_spec.specs.FormedLaws.{of_live, live_found, have_rising, to_listed, from_listed, formed-with_handles, formed-with_new_object}
+use Rattle.win32_spec.specs.FormedLaws.{of_live, live_found, have_rising, to_listed, from_listed, formed-with_handles}
+use Rattle.win32_spec.specs.FormedLaws.{formed-with_new_object}
 use Rattle.win32_spec.specs.EndFormedLaws.{formed-with_ended}
 use Rattle.win32_spec.specs.SweptLaws.{wellformed-swept}
 use Rattle.win32_spec.specs.TameLaws.{wellformed-tame}
 use Rattle.win32_spec.specs.MadeLaws.{formed-with_made}
-use Rattle.win32_spec.specs.Effects.{MayWrite, MayExchange, CallEffect, Changes, Opens, Adds, AddsPipe, Makes, Closes, Ends}
+use Rattle.win32_spec.specs.Effects.{MayWrite, MayExchange, CallEffect, Changes, Opens, Adds, AddsPipe, Makes, Closes}
+use Rattle.win32_spec.specs.Effects.{Ends}
 use Rattle.win32_spec.specs.EffectLaws.{wellformed-more, wellformed-opened, wellformed-added}
 
 module _ (script : Script) (s : Win32State) (w : ℕ) (p : Process) (h : IsWellFormed script s)

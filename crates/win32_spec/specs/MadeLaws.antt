@@ -1,5 +1,6 @@
 -- A state with one more process, as it is when it is made.
-use Rattle.std.proofs.Common.{◌≡◌, ◌≢◌, ◌⊎◌, inl, inr, ℕ, zero, suc, ◌+◌, ◌≤◌, List, replicate, Some, None, slice_get, refl, sym, ap, ◌∙◌, subst, arith}
+use Rattle.std.proofs.Common.{◌≡◌, ◌≢◌, ◌⊎◌, inl, inr, ℕ, zero, suc, ◌+◌, ◌≤◌, List, replicate, Some, None, slice_get}
+use Rattle.std.proofs.Common.{refl, sym, ap, ◌∙◌, subst, arith}
 use Rattle.std.proofs.lemmas.Bool.{cases_eq}
 use Rattle.std.proofs.lemmas.List.{length-replicate}
 use Rattle.w32_base.specs.declared.setup.Program.{Program}
@@ -7,11 +8,14 @@ use Rattle.script_spec.specs.declared.script.Script.{Script}
 use Rattle.vm_spec.specs.WordLaws.{length-with_word}
 use Rattle.win32_spec.specs.Handles.{Handle, handle_of, AreRisingFrom}
 use Rattle.win32_spec.specs.State.{Object, ProcessObject, Process, Win32State}
-use Rattle.win32_spec.specs.Lookup.{process_of, object_number, object_of, add_process, add_object, IsFresh, IsLowestFreeSlot}
+use Rattle.win32_spec.specs.Lookup.{process_of, object_number, object_of, add_process, add_object, IsFresh}
+use Rattle.win32_spec.specs.Lookup.{IsLowestFreeSlot}
 use Rattle.win32_spec.specs.Making.{threads_of, new_memory, new_threads, new_process}
 use Rattle.win32_spec.specs.ProcessCalls.{with_made}
-use Rattle.win32_spec.specs.WellFormed.{AreThreads, HasSizes, IsListed, IsLiveProcess, IsProcessBy, IsObject, only_number, IsFormed}
-use Rattle.win32_spec.specs.LookupLaws.{same_some, not_none, process_of-add_kept, process_of-add_new, process_of-add_other, process_in-free, rising-absent, rising-add_process}
+use Rattle.win32_spec.specs.WellFormed.{AreThreads, HasSizes, IsListed, IsLiveProcess, IsProcessBy, IsObject}
+use Rattle.win32_spec.specs.WellFormed.{only_number, IsFormed}
+use Rattle.win32_spec.specs.LookupLaws.{same_some, not_none, process_of-add_kept, process_of-add_new}
+use Rattle.win32_spec.specs.LookupLaws.{process_of-add_other, process_in-free, rising-absent, rising-add_process}
 use Rattle.win32_spec.specs.ObjectLaws.{object_of-add_new, object_of-add_other, rising-add_object}
 use Rattle.win32_spec.specs.FormedLaws.{with_objects, to_listed, from_listed, object_over}
 use Rattle.win32_spec.specs.HandleEffects.{only_process}

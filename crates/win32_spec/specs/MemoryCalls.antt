@@ -1,5 +1,6 @@
 -- The calls on the memory of processes: `run`, `readmem` and `writemem`.
-use Rattle.std.specs.Prelude.{ℕ, Bool, ◌&&◌, nat_le, List, [], length, Option, Some, None, slice_get, MatchBool, MatchOption}
+use Rattle.std.specs.Prelude.{ℕ, Bool, ◌&&◌, nat_le, List, [], length, Option, Some, None, slice_get, MatchBool}
+use Rattle.std.specs.Prelude.{MatchOption}
 use Rattle.w32_base.specs.declared.call.Region.{Region}
 use Rattle.w32_base.specs.declared.call.Reply.{Reply}
 use Rattle.w32_base.specs.declared.call.Reply.TheVariants as reply

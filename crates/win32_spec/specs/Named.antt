@@ -1,11 +1,13 @@
 -- What the handles of a caller name, and the shapes of an answer.
-use Rattle.std.specs.Prelude.{◌≡◌, ℕ, ◌+◌, Bool, false, ◌||◌, nat_lt, List, [], ◌∷◌, length, Option, Some, None, is_none, MatchBool}
+use Rattle.std.specs.Prelude.{◌≡◌, ℕ, ◌+◌, Bool, false, ◌||◌, nat_lt, List, [], ◌∷◌, length, Option, Some, None}
+use Rattle.std.specs.Prelude.{is_none, MatchBool}
 use Rattle.tty_spec.specs.Terminal.{Terminal}
 use Rattle.w32_base.specs.declared.call.Reply.{Reply}
 use Rattle.w32_base.specs.declared.call.Reply.TheVariants as reply
 use Rattle.win32_spec.specs.Handles.{Handle, handle_of, with_handle, IsLowestFree}
 use Rattle.win32_spec.specs.Objects.{EventState, Ownership}
-use Rattle.win32_spec.specs.State.{Object, Section, Event, Mutex, Pipe, ProcessObject, TerminalObject, Process, Win32State}
+use Rattle.win32_spec.specs.State.{Object, Section, Event, Mutex, Pipe, ProcessObject, TerminalObject, Process}
+use Rattle.win32_spec.specs.State.{Win32State}
 use Rattle.win32_spec.specs.Lookup.{process_of, object_number, object_of, with_handles, with_new_object, IsFresh}
 
 -- the handles of a process, and of none

@@ -3,12 +3,14 @@ use Rattle.std.specs.Prelude.{◌≡◌, ℕ, ◌+◌, Bool, List, [], Option, S
 use Rattle.w32_base.specs.declared.call.Reply.{Reply}
 use Rattle.w32_base.specs.declared.call.Reply.TheVariants as reply
 use Rattle.win32_spec.specs.Handles.{with_handle, IsLowestFree}
-use Rattle.win32_spec.specs.Objects.{event_set, event_reset, Free, Owned, is_owner, PipeState, put_reply, put_after, get_reply, get_after}
+use Rattle.win32_spec.specs.Objects.{event_set, event_reset, Free, Owned, is_owner, PipeState, put_reply, put_after}
+use Rattle.win32_spec.specs.Objects.{get_reply, get_after}
 use Rattle.win32_spec.specs.State.{Event, Mutex, Pipe, Win32State}
 use Rattle.win32_spec.specs.Lookup.{with_object, with_new_object, with_handles, IsFresh}
 use Rattle.win32_spec.specs.Pipes.{pipe_state}
 use Rattle.win32_spec.specs.Ready.{is_first_end}
-use Rattle.win32_spec.specs.Named.{handles_by, named_by, object_number_by, object_by, event_named, mutex_named, pipe_named, is_full, Gives, MakesObject}
+use Rattle.win32_spec.specs.Named.{handles_by, named_by, object_number_by, object_by, event_named, mutex_named}
+use Rattle.win32_spec.specs.Named.{pipe_named, is_full, Gives, MakesObject}
 
 -- `event MANUAL SET`: a new event. Refusals: tablefull.
 abbrev pub EventStep : Win32State → ℕ → Bool → Bool → Reply → Win32State → Type 0

@@ -1,17 +1,21 @@
 -- Each call makes one of the changes: the calls on events, mutexes, pipes and waits.
-use Rattle.std.proofs.Common.{◌≡◌, inl, inr, ℕ, suc, ◌+◌, ◌≤◌, ◌<◌, Bool, true, false, if◌then◌else◌, nat_eq, nat_lt, List, [], ◌∷◌, ◌++◌, length, Option, Some, None, slice_index, refl, arith, length-append}
+use Rattle.std.proofs.Common.{◌≡◌, inl, inr, ℕ, suc, ◌+◌, ◌≤◌, ◌<◌, Bool, true, false, if◌then◌else◌, nat_eq, nat_lt}
+use Rattle.std.proofs.Common.{List, [], ◌∷◌, ◌++◌, length, Option, Some, None, slice_index, refl, arith, length-append}
 use Rattle.std.proofs.lemmas.Bool.Decides.{nat_tests}
 use Rattle.w32_base.specs.declared.call.Call.{Call}
 use Rattle.w32_base.specs.declared.call.Call.TheVariants as call
 use Rattle.w32_base.specs.declared.call.Reply.{Reply}
 use Rattle.script_spec.specs.declared.script.Script.{Script}
 use Rattle.win32_spec.specs.Handles.{Handle, handle_of}
-use Rattle.win32_spec.specs.Objects.{event_set, event_reset, Free, Owned, is_owner, PipeState, put_after, get_after, without_first}
+use Rattle.win32_spec.specs.Objects.{event_set, event_reset, Free, Owned, is_owner, PipeState, put_after, get_after}
+use Rattle.win32_spec.specs.Objects.{without_first}
 use Rattle.win32_spec.specs.State.{Object, Section, Event, Mutex, Pipe, ProcessObject, TerminalObject, Win32State}
 use Rattle.win32_spec.specs.Lookup.{process_of, is_live, object_of, with_object}
-use Rattle.win32_spec.specs.Named.{handles_by, named_by, object_number_by, object_at, object_by, event_named, mutex_named, pipe_named, is_full, has_absent, MakesObject}
+use Rattle.win32_spec.specs.Named.{handles_by, named_by, object_number_by, object_at, object_by, event_named}
+use Rattle.win32_spec.specs.Named.{mutex_named, pipe_named, is_full, has_absent, MakesObject}
 use Rattle.win32_spec.specs.Ready.{is_first_end, is_signalled, is_handle_signalled}
-use Rattle.win32_spec.specs.ObjectCalls.{EventStep, SetStep, ResetStep, MutexStep, ReleaseStep, PipeStep, at_read_end, at_write_end, read_end_by, write_end_by, pipe_by, PutStep, GetStep}
+use Rattle.win32_spec.specs.ObjectCalls.{EventStep, SetStep, ResetStep, MutexStep, ReleaseStep, PipeStep, at_read_end}
+use Rattle.win32_spec.specs.ObjectCalls.{at_write_end, read_end_by, write_end_by, pipe_by, PutStep, GetStep}
 use Rattle.win32_spec.specs.HandleCalls.{first_signalled, taken_object, WaitStep}
 use Rattle.win32_spec.specs.WellFormed.{only_number, IsObject}
 use Rattle.win32_spec.specs.Tame.{ObjectBecomes}

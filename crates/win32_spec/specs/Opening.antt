@@ -1,5 +1,6 @@
 -- The state in which a run of a script begins.
-use Rattle.std.specs.Prelude.{◌≡◌, ℕ, ◌+◌, ◌-◌, ◌*◌, ◌/◌, ◌%◌, ◌^◌, ◌<◌, List, [], ◌∷◌, ◌++◌, length, replicate, Some, None, slice_get}
+use Rattle.std.specs.Prelude.{◌≡◌, ℕ, ◌+◌, ◌-◌, ◌*◌, ◌/◌, ◌%◌, ◌^◌, ◌<◌, List, [], ◌∷◌, ◌++◌, length, replicate, Some}
+use Rattle.std.specs.Prelude.{None, slice_get}
 use Rattle.tty_spec.specs.Terminal.{opening_terminal}
 use Rattle.w32_base.specs.declared.own.Own.{Own}
 use Rattle.w32_base.specs.declared.setup.Module.{Module}
@@ -8,7 +9,8 @@ use Rattle.script_spec.specs.declared.script.Script.{Script}
 use Rattle.win32_spec.specs.Handles.{Handle}
 use Rattle.win32_spec.specs.Objects.{Free}
 use Rattle.win32_spec.specs.Regions.{IsPlaceFor}
-use Rattle.win32_spec.specs.State.{Section, Mutex, ProcessObject, TerminalObject, NumberedObject, PlacedModule, Alive, Process, Win32State}
+use Rattle.win32_spec.specs.State.{Section, Mutex, ProcessObject, TerminalObject, NumberedObject, PlacedModule, Alive}
+use Rattle.win32_spec.specs.State.{Process, Win32State}
 use Rattle.win32_spec.specs.Lookup.{no_memory, object_number}
 use Rattle.win32_spec.specs.Making.{new_thread, new_memory, new_process}
 use Rattle.win32_spec.specs.Placing.{taken_pages, and_placed}

@@ -1,16 +1,20 @@
 -- The opening state is well formed.
-use Rattle.std.proofs.Common.{◌≡◌, ◌≢◌, ◌⊎◌, inl, inr, ℕ, ◌+◌, ◌≤◌, true, if◌then◌else◌, nat_eq, List, [], ◌∷◌, length, Some, None, slice_get, refl, sym, ap, ◌∙◌, subst, arith}
+use Rattle.std.proofs.Common.{◌≡◌, ◌≢◌, ◌⊎◌, inl, inr, ℕ, ◌+◌, ◌≤◌, true, if◌then◌else◌, nat_eq, List, [], ◌∷◌, length}
+use Rattle.std.proofs.Common.{Some, None, slice_get, refl, sym, ap, ◌∙◌, subst, arith}
 use Rattle.std.proofs.lemmas.Bool.{cases_eq}
 use Rattle.tty_spec.specs.Terminal.{opening_terminal}
 use Rattle.w32_base.specs.declared.setup.Program.{Program}
 use Rattle.script_spec.specs.declared.script.Script.{Script}
 use Rattle.win32_spec.specs.Handles.{Handle, handle_of}
 use Rattle.win32_spec.specs.Objects.{Free}
-use Rattle.win32_spec.specs.State.{Object, Section, Mutex, ProcessObject, TerminalObject, PlacedModule, Process, Win32State}
+use Rattle.win32_spec.specs.State.{Object, Section, Mutex, ProcessObject, TerminalObject, PlacedModule, Process}
+use Rattle.win32_spec.specs.State.{Win32State}
 use Rattle.win32_spec.specs.Lookup.{is_alive, process_of, object_number, object_of}
 use Rattle.win32_spec.specs.Ends.{is_object_held}
-use Rattle.win32_spec.specs.Opening.{opening_words, ArePlaced, opening_memory, OpeningNumbers, opening_host, opening_handles, opening_process, opening_objects, opening, IsOpening}
-use Rattle.win32_spec.specs.WellFormed.{HasSizes, AreModules, has_ends, IsListed, IsLiveProcess, IsProcessBy, IsObject, only_number, IsFormed, IsWellFormed}
+use Rattle.win32_spec.specs.Opening.{opening_words, ArePlaced, opening_memory, OpeningNumbers, opening_host}
+use Rattle.win32_spec.specs.Opening.{opening_handles, opening_process, opening_objects, opening, IsOpening}
+use Rattle.win32_spec.specs.WellFormed.{HasSizes, AreModules, has_ends, IsListed, IsLiveProcess, IsProcessBy, IsObject}
+use Rattle.win32_spec.specs.WellFormed.{only_number, IsFormed, IsWellFormed}
 use Rattle.win32_spec.specs.LookupLaws.{same, differs, same_some}
 use Rattle.win32_spec.specs.HeldLaws.{is-held}
 use Rattle.win32_spec.specs.FormedLaws.{to_listed}

@@ -9,7 +9,8 @@ use Rattle.win32_spec.specs.Ends.{held_objects, objects_left_by, ended_process}
 use Rattle.win32_spec.specs.Making.{new_process}
 use Rattle.win32_spec.specs.Named.{handles_by}
 use Rattle.win32_spec.specs.WellFormed.{IsWellFormed}
-use Rattle.win32_spec.specs.LookupLaws.{same_some, process_of-change_other, changed_process, process_of-add_kept, rising-change_process}
+use Rattle.win32_spec.specs.LookupLaws.{same_some, process_of-change_other, changed_process, process_of-add_kept}
+use Rattle.win32_spec.specs.LookupLaws.{rising-change_process}
 use Rattle.win32_spec.specs.HeldLaws.{kept_process}
 use Rattle.win32_spec.specs.Tame.{ProcessBecomes}
 use Rattle.win32_spec.specs.TameLaws.{both_forth}

@@ -1,15 +1,18 @@
 -- The calls on processes and their threads: `create`, `open`, `exitcode`, `terminate`, `exitself`, `resume`, `suspend`.
-use Rattle.std.specs.Prelude.{◌⊎◌, ℕ, ◌+◌, ◌-◌, nat_lt, if◌then◌else◌, List, [], ◌∷◌, Option, Some, None, slice_get, MatchBool, MatchOption}
+use Rattle.std.specs.Prelude.{◌⊎◌, ℕ, ◌+◌, ◌-◌, nat_lt, if◌then◌else◌, List, [], ◌∷◌, Option, Some, None, slice_get}
+use Rattle.std.specs.Prelude.{MatchBool, MatchOption}
 use Rattle.w32_base.specs.declared.call.Reply.{Reply}
 use Rattle.w32_base.specs.declared.call.Reply.TheVariants as reply
 use Rattle.w32_base.specs.declared.setup.Program.{Program}
 use Rattle.script_spec.specs.declared.script.Script.{Script}
 use Rattle.win32_spec.specs.Handles.{listed_handles}
 use Rattle.win32_spec.specs.State.{ProcessObject, NumberedObject, Life, Alive, Ended, Process, Win32State}
-use Rattle.win32_spec.specs.Lookup.{is_alive, process_of, is_live, thread_in, add_process, add_object, with_thread, IsFresh, IsLowestFreeSlot, AreAllOccupied}
+use Rattle.win32_spec.specs.Lookup.{is_alive, process_of, is_live, thread_in, add_process, add_object, with_thread}
+use Rattle.win32_spec.specs.Lookup.{IsFresh, IsLowestFreeSlot, AreAllOccupied}
 use Rattle.win32_spec.specs.Ends.{is_object_of, with_end}
 use Rattle.win32_spec.specs.Making.{new_process}
-use Rattle.win32_spec.specs.Named.{handles_by, object_by, process_named, has_absent, is_full, Gives, IsHandled, GetsHandle, MakesObject}
+use Rattle.win32_spec.specs.Named.{handles_by, object_by, process_named, has_absent, is_full, Gives, IsHandled}
+use Rattle.win32_spec.specs.Named.{GetsHandle, MakesObject}
 
 -- the process while it is alive
 abbrev pub live_of : Option Process → Option Process

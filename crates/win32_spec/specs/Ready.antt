@@ -1,11 +1,13 @@
 -- When a thread is ready, and which one comes next.
-use Rattle.std.specs.Prelude.{◌≡◌, ℕ, ◌+◌, ◌-◌, ◌*◌, ◌%◌, ◌≤◌, Bool, true, false, ◌&&◌, ◌||◌, not, nat_eq, if◌then◌else◌, List, [], ◌∷◌, Option, Some, None}
+use Rattle.std.specs.Prelude.{◌≡◌, ℕ, ◌+◌, ◌-◌, ◌*◌, ◌%◌, ◌≤◌, Bool, true, false, ◌&&◌, ◌||◌, not, nat_eq}
+use Rattle.std.specs.Prelude.{if◌then◌else◌, List, [], ◌∷◌, Option, Some, None}
 use Rattle.tty_spec.specs.Discipline.{has_line}
 use Rattle.w32_base.specs.declared.call.Call.{Call}
 use Rattle.w32_base.specs.declared.call.Call.TheVariants as call
 use Rattle.win32_spec.specs.Handles.{Handle, handle_of}
 use Rattle.win32_spec.specs.Objects.{is_free_for, is_empty, pipe_is_signalled}
-use Rattle.win32_spec.specs.State.{Object, Section, Event, Mutex, Pipe, ProcessObject, TerminalObject, Thread, Process, Win32State}
+use Rattle.win32_spec.specs.State.{Object, Section, Event, Mutex, Pipe, ProcessObject, TerminalObject, Thread, Process}
+use Rattle.win32_spec.specs.State.{Win32State}
 use Rattle.win32_spec.specs.Lookup.{is_live, process_of, process_in, thread_in, object_number, object_of}
 use Rattle.win32_spec.specs.Pipes.{pipe_state}
 

@@ -1,5 +1,6 @@
 -- Each thread of a driven machine has posted the call of its own part, which serves that thread.
-use Rattle.std.proofs.Common.{◌≡◌, ◌≢◌, ℕ, Bool, true, false, nat_eq, Option, Some, None, MatchBool, MatchOption, refl, sym, ap, ◌∙◌}
+use Rattle.std.proofs.Common.{◌≡◌, ◌≢◌, ℕ, Bool, true, false, nat_eq, Option, Some, None, MatchBool, MatchOption, refl}
+use Rattle.std.proofs.Common.{sym, ap, ◌∙◌}
 use Rattle.std.proofs.lemmas.Bool.{eqb-true}
 use Rattle.w32_base.specs.declared.call.Call.{Call}
 use Rattle.w32_base.specs.declared.call.Reply.{Reply}
@@ -10,7 +11,8 @@ use Rattle.w32_base.specs.declared.part.After.{After}
 use Rattle.w32_base.specs.declared.setup.Setup.{Setup}
 use Rattle.script_spec.specs.declared.script.Script.{Script}
 use Rattle.win32_spec.specs.State.{Thread, Process, Win32State}
-use Rattle.win32_spec.specs.Lookup.{is_alive, process_of, is_live, process_in, thread_in, thread_of, thread_at, number_of, number_in}
+use Rattle.win32_spec.specs.Lookup.{is_alive, process_of, is_live, process_in, thread_in, thread_of, thread_at}
+use Rattle.win32_spec.specs.Lookup.{number_of, number_in}
 use Rattle.win32_spec.specs.Making.{opening_call}
 use Rattle.win32_spec.specs.Run.{StepBy}
 use Rattle.win32_spec.specs.Driven.{Parts, part_at, Serves, AreServed, OpensPart, is_same_number, PartFollows}

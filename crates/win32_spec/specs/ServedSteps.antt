@@ -1,5 +1,6 @@
 -- A driven machine keeps that each thread has posted the call of its own part, which serves that thread.
-use Rattle.std.proofs.Common.{◌≡◌, ◌≢◌, ◌⊎◌, inl, inr, ℕ, true, Option, Some, None, MatchOption, refl, sym, ap, ◌∙◌, subst}
+use Rattle.std.proofs.Common.{◌≡◌, ◌≢◌, ◌⊎◌, inl, inr, ℕ, true, Option, Some, None, MatchOption, refl, sym, ap, ◌∙◌}
+use Rattle.std.proofs.Common.{subst}
 use Rattle.std.proofs.lemmas.Bool.{cases_eq}
 use Rattle.w32_base.specs.Part.{KeepsLengths}
 use Rattle.w32_base.specs.declared.call.Call.{Call}
@@ -12,7 +13,8 @@ use Rattle.w32_base.specs.declared.part.After.{After}
 use Rattle.w32_base.specs.declared.setup.Setup.{Setup}
 use Rattle.script_spec.specs.declared.script.Script.{Script}
 use Rattle.win32_spec.specs.State.{Thread, Process, Win32State}
-use Rattle.win32_spec.specs.Lookup.{process_of, is_live, process_in, thread_in, thread_of, thread_at, number_of, number_in, memory_by, change_process, change_thread}
+use Rattle.win32_spec.specs.Lookup.{process_of, is_live, process_in, thread_in, thread_of, thread_at, number_of}
+use Rattle.win32_spec.specs.Lookup.{number_in, memory_by, change_process, change_thread}
 use Rattle.win32_spec.specs.Ready.{is_ready}
 use Rattle.win32_spec.specs.Making.{opening_call}
 use Rattle.win32_spec.specs.Run.{StepBy}

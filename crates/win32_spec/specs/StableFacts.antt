@@ -1,5 +1,6 @@
 -- Facts on which other threads rely: what stays through a directive.
-use Rattle.std.proofs.Common.{◌≡◌, ◌≢◌, ◌⊎◌, inl, inr, ℕ, Bool, true, false, ◌&&◌, if◌then◌else◌, nat_eq, List, Option, Some, None, refl, sym, ap, ◌∙◌, subst}
+use Rattle.std.proofs.Common.{◌≡◌, ◌≢◌, ◌⊎◌, inl, inr, ℕ, Bool, true, false, ◌&&◌, if◌then◌else◌, nat_eq, List, Option}
+use Rattle.std.proofs.Common.{Some, None, refl, sym, ap, ◌∙◌, subst}
 use Rattle.std.proofs.lemmas.Bool.{eqb-true}
 use Rattle.w32_base.specs.declared.call.Call.{Call}
 use Rattle.w32_base.specs.declared.entry.Directive.{Directive}
@@ -13,7 +14,8 @@ use Rattle.win32_spec.specs.Ready.{is_ready}
 use Rattle.win32_spec.specs.Ends.{is_process_held, ended_process, with_ended}
 use Rattle.win32_spec.specs.Run.{EndStep, StepBy, ended_from_outside}
 use Rattle.win32_spec.specs.WellFormed.{IsWellFormed}
-use Rattle.win32_spec.specs.LookupLaws.{same_some, and_true, process_of-change_other, process_in-found, rising-change_process}
+use Rattle.win32_spec.specs.LookupLaws.{same_some, and_true, process_of-change_other, process_in-found}
+use Rattle.win32_spec.specs.LookupLaws.{rising-change_process}
 use Rattle.win32_spec.specs.HeldLaws.{is-process_held}
 use Rattle.win32_spec.specs.FormedLaws.{found_live}
 use Rattle.win32_spec.specs.CallEffects.{by_bool}

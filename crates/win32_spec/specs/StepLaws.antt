@@ -1,5 +1,6 @@
 -- Each directive leaves a well-formed state well formed.
-use Rattle.std.proofs.Common.{◌≡◌, ℕ, zero, suc, ◌≤◌, Bool, true, false, if◌then◌else◌, nat_eq, List, [], ◌∷◌, Option, Some, None, refl, sym, subst, arith}
+use Rattle.std.proofs.Common.{◌≡◌, ℕ, zero, suc, ◌≤◌, Bool, true, false, if◌then◌else◌, nat_eq, List, [], ◌∷◌, Option}
+use Rattle.std.proofs.Common.{Some, None, refl, sym, subst, arith}
 use Rattle.std.proofs.lemmas.Bool.{eqb-true}
 use Rattle.w32_base.specs.declared.call.Call.{Call}
 use Rattle.w32_base.specs.declared.entry.Directive.{Directive}
@@ -10,7 +11,8 @@ use Rattle.w32_base.specs.declared.own.Own.{Own}
 use Rattle.w32_base.specs.Part.{KeepsLengths}
 use Rattle.script_spec.specs.declared.script.Script.{Script}
 use Rattle.win32_spec.specs.State.{Thread, Process, Win32State}
-use Rattle.win32_spec.specs.Lookup.{process_of, is_live, process_in, thread_in, change_thread, memory_by, with_posted, with_own}
+use Rattle.win32_spec.specs.Lookup.{process_of, is_live, process_in, thread_in, change_thread, memory_by, with_posted}
+use Rattle.win32_spec.specs.Lookup.{with_own}
 use Rattle.win32_spec.specs.Ready.{is_ready}
 use Rattle.win32_spec.specs.Making.{threads_of}
 use Rattle.win32_spec.specs.Run.{IsThread, Acts, ReadyTurn, EndStep, with_key, StepBy, Win32Run, ended_from_outside}

@@ -3,12 +3,14 @@ use Rattle.std.proofs.Common.{◌≡◌, ℕ, true, ◌||◌, Some, refl, ap}
 use Rattle.script_spec.specs.declared.script.Script.{Script}
 use Rattle.win32_spec.specs.Handles.{handle_of}
 use Rattle.win32_spec.specs.Objects.{Free, Owned, Abandoned}
-use Rattle.win32_spec.specs.State.{Object, Section, Event, Mutex, Pipe, ProcessObject, TerminalObject, Life, Alive, Ended, Process, Win32State}
+use Rattle.win32_spec.specs.State.{Object, Section, Event, Mutex, Pipe, ProcessObject, TerminalObject, Life, Alive}
+use Rattle.win32_spec.specs.State.{Ended, Process, Win32State}
 use Rattle.win32_spec.specs.Lookup.{is_alive, process_of, object_number, object_of}
 use Rattle.win32_spec.specs.Ends.{is_object_held, held_objects, is_process_held, kept_processes, swept}
 use Rattle.win32_spec.specs.WellFormed.{IsListed, IsProcessBy, IsObject, IsFormed, IsWellFormed}
 use Rattle.win32_spec.specs.LookupLaws.{or_left, or_right}
-use Rattle.win32_spec.specs.HeldLaws.{held-by, is-held, held_object, held_object-stays, rising-held, is-process_held, kept_process, kept_process-stays, rising-kept}
+use Rattle.win32_spec.specs.HeldLaws.{held-by, is-held, held_object, held_object-stays, rising-held, is-process_held}
+use Rattle.win32_spec.specs.HeldLaws.{kept_process, kept_process-stays, rising-kept}
 use Rattle.win32_spec.specs.FormedLaws.{to_listed, from_listed, live_found, found_live, have_rising}
 
 module _ (script : Script) (s : Win32State) (h : IsFormed script s) where

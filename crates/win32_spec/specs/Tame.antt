@@ -4,9 +4,11 @@ use Rattle.w32_base.specs.Part.{KeepsLengths}
 use Rattle.w32_base.specs.declared.call.Call.{Call}
 use Rattle.script_spec.specs.declared.script.Script.{Script}
 use Rattle.win32_spec.specs.Objects.{Free, Owned, is_owner, is_free_for}
-use Rattle.win32_spec.specs.State.{Object, Section, Event, Mutex, Pipe, ProcessObject, TerminalObject, NumberedObject, Thread, Process, Win32State}
+use Rattle.win32_spec.specs.State.{Object, Section, Event, Mutex, Pipe, ProcessObject, TerminalObject, NumberedObject}
+use Rattle.win32_spec.specs.State.{Thread, Process, Win32State}
 use Rattle.win32_spec.specs.Lookup.{is_alive, process_of, thread_in, object_of}
-use Rattle.win32_spec.specs.WellFormed.{AreRisingProcesses, AreRisingObjects, AreThreads, AreModules, has_ends, only_number}
+use Rattle.win32_spec.specs.WellFormed.{AreRisingProcesses, AreRisingObjects, AreThreads, AreModules, has_ends}
+use Rattle.win32_spec.specs.WellFormed.{only_number}
 
 -- a relation of what is found before and after: both are absent, or both are there and related
 abbrev pub Both : {X : Type 0} → (X → X → Type 0) → Option X → Option X → Type 0

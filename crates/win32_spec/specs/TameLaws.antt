@@ -1,12 +1,15 @@
 -- A well-formed state stays so under a change that leaves handles, lives and kinds alone.
-use Rattle.std.proofs.Common.{◌≡◌, inl, inr, ℕ, ◌≤◌, true, List, Option, Some, None, MatchOption, refl, sym, ap, ◌∙◌, subst}
+use Rattle.std.proofs.Common.{◌≡◌, inl, inr, ℕ, ◌≤◌, true, List, Option, Some, None, MatchOption, refl, sym, ap, ◌∙◌}
+use Rattle.std.proofs.Common.{subst}
 use Rattle.w32_base.specs.Part.{KeepsLengths}
 use Rattle.script_spec.specs.declared.script.Script.{Script}
-use Rattle.win32_spec.specs.State.{Object, Section, Event, Mutex, Pipe, ProcessObject, TerminalObject, Life, Alive, Ended, Process, Win32State}
+use Rattle.win32_spec.specs.State.{Object, Section, Event, Mutex, Pipe, ProcessObject, TerminalObject, Life, Alive}
+use Rattle.win32_spec.specs.State.{Ended, Process, Win32State}
 use Rattle.win32_spec.specs.Lookup.{is_alive, process_of, is_live, object_number, object_of}
 use Rattle.win32_spec.specs.Ends.{is_object_held}
 use Rattle.win32_spec.specs.Making.{threads_of}
-use Rattle.win32_spec.specs.WellFormed.{HasSizes, IsHost, IsLayerProcess, IsListed, IsEndedProcess, IsProcessBy, IsOwnership, IsObject, IsFormed, IsWellFormed}
+use Rattle.win32_spec.specs.WellFormed.{HasSizes, IsHost, IsLayerProcess, IsListed, IsEndedProcess, IsProcessBy}
+use Rattle.win32_spec.specs.WellFormed.{IsOwnership, IsObject, IsFormed, IsWellFormed}
 use Rattle.win32_spec.specs.HeldLaws.{held-by, is-held, process_held-by, is-process_held}
 use Rattle.win32_spec.specs.FormedLaws.{to_listed, from_listed, object_over, have_rising}
 use Rattle.win32_spec.specs.Tame.{Both, ProcessBecomes, HoldsNext, ObjectBecomes, IsTame}

@@ -4,11 +4,14 @@ use Rattle.std.proofs.lemmas.Bool.{cases_eq}
 use Rattle.w32_base.specs.Part.{KeepsLengths}
 use Rattle.w32_base.specs.declared.own.Own.{Own}
 use Rattle.script_spec.specs.declared.script.Script.{Script}
-use Rattle.win32_spec.specs.State.{Object, Section, Event, Mutex, Pipe, ProcessObject, TerminalObject, NumberedObject, Process, Win32State}
+use Rattle.win32_spec.specs.State.{Object, Section, Event, Mutex, Pipe, ProcessObject, TerminalObject, NumberedObject}
+use Rattle.win32_spec.specs.State.{Process, Win32State}
 use Rattle.win32_spec.specs.Lookup.{process_of, object_of, change_process, change_object, with_process, with_object}
-use Rattle.win32_spec.specs.LookupLaws.{process_of-change_same, process_of-change_other, process_of-change_none, rising-change_process}
+use Rattle.win32_spec.specs.LookupLaws.{process_of-change_same, process_of-change_other, process_of-change_none}
+use Rattle.win32_spec.specs.LookupLaws.{rising-change_process}
 use Rattle.win32_spec.specs.ObjectLaws.{object_of-change_same, object_of-change_other, rising-change_object}
-use Rattle.win32_spec.specs.Tame.{Both, ProcessBecomes, HoldsNext, ObjectBecomes, AreProcessesNext, AreObjectsNext, IsTame}
+use Rattle.win32_spec.specs.Tame.{Both, ProcessBecomes, HoldsNext, ObjectBecomes, AreProcessesNext, AreObjectsNext}
+use Rattle.win32_spec.specs.Tame.{IsTame}
 use Rattle.win32_spec.specs.TameLaws.{both_same}
 
 pub lengths-same : (own : Own) → KeepsLengths own own

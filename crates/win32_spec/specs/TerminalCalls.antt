@@ -1,5 +1,6 @@
 -- The calls on the terminal, by either of its faces.
-use Rattle.std.specs.Prelude.{ℕ, Bool, ◌&&◌, not, nat_eq, nat_le, List, [], ◌∷◌, length, Option, Some, None, MatchBool, MatchOption}
+use Rattle.std.specs.Prelude.{ℕ, Bool, ◌&&◌, not, nat_eq, nat_le, List, [], ◌∷◌, length, Option, Some, None, MatchBool}
+use Rattle.std.specs.Prelude.{MatchOption}
 use Rattle.tty_spec.specs.Terminal.{Terminal, terminal_session}
 use Rattle.tty_spec.specs.Discipline.{has_flag, tostop_flag, after_key, after_take}
 use Rattle.w32_base.specs.declared.call.Region.TheVariants.{Heap}

@@ -1,5 +1,6 @@
 -- Each call makes one of the changes: the calls on the terminal; and so all calls.
-use Rattle.std.proofs.Common.{◌≡◌, inl, inr, ℕ, ◌≤◌, Bool, true, false, ◌&&◌, not, nat_le, List, [], ◌∷◌, length, take, Option, Some, None, refl, sym, ap, subst, arith, length-take}
+use Rattle.std.proofs.Common.{◌≡◌, inl, inr, ℕ, ◌≤◌, Bool, true, false, ◌&&◌, not, nat_le, List, [], ◌∷◌, length, take}
+use Rattle.std.proofs.Common.{Option, Some, None, refl, sym, ap, subst, arith, length-take}
 use Rattle.tty_spec.specs.Terminal.{Terminal}
 use Rattle.tty_spec.specs.Discipline.{Taken, has_flag, tostop_flag, after_key, after_take, taking}
 use Rattle.w32_base.specs.Part.{KeepsLengths}
@@ -29,8 +30,10 @@ use Rattle.win32_spec.specs.Call.{CallStep}
 use Rattle.win32_spec.specs.CallEffects.{load_effect, exchange_effect, add_effect}
 use Rattle.win32_spec.specs.ThreadEffects.{resume_effect, suspend_effect}
 use Rattle.win32_spec.specs.MemoryEffects.{read_effect, write_effect, HaveRegisters}
-use Rattle.win32_spec.specs.PlaceEffects.{run_effect, module_effect, exit_code_effect, terminate_effect, exit_self_effect}
-use Rattle.win32_spec.specs.ObjectEffects.{set_effect, reset_effect, release_effect, put_effect, get_effect, wait_effect, event_effect, mutex_effect, pipe_effect}
+use Rattle.win32_spec.specs.PlaceEffects.{run_effect, module_effect, exit_code_effect, terminate_effect}
+use Rattle.win32_spec.specs.PlaceEffects.{exit_self_effect}
+use Rattle.win32_spec.specs.ObjectEffects.{set_effect, reset_effect, release_effect, put_effect, get_effect}
+use Rattle.win32_spec.specs.ObjectEffects.{wait_effect, event_effect, mutex_effect, pipe_effect}
 use Rattle.win32_spec.specs.HandleEffects.{open_effect, dup_effect, close_effect, create_effect}
 
 -- The terminal.

@@ -1,5 +1,6 @@
 -- Each call makes one of the changes: the calls on threads, on ends and on memory.
-use Rattle.std.proofs.Common.{◌≡◌, ℕ, ◌+◌, ◌≤◌, Bool, true, false, if◌then◌else◌, nat_eq, nat_lt, List, [], ◌∷◌, Option, Some, None, refl, sym, ap, ◌∙◌, subst, arith}
+use Rattle.std.proofs.Common.{◌≡◌, ℕ, ◌+◌, ◌≤◌, Bool, true, false, if◌then◌else◌, nat_eq, nat_lt, List, [], ◌∷◌, Option}
+use Rattle.std.proofs.Common.{Some, None, refl, sym, ap, ◌∙◌, subst, arith}
 use Rattle.std.proofs.lemmas.Bool.Decides.{nat_tests}
 use Rattle.w32_base.specs.Part.{KeepsLengths}
 use Rattle.w32_base.specs.declared.call.Call.{Call}
@@ -11,7 +12,8 @@ use Rattle.win32_spec.specs.Regions.{written}
 use Rattle.win32_spec.specs.State.{Thread, Process, Win32State}
 use Rattle.win32_spec.specs.Lookup.{is_alive, process_of, thread_in, change_thread}
 use Rattle.win32_spec.specs.Named.{object_by, process_named}
-use Rattle.win32_spec.specs.ProcessCalls.{live_of, live_process, resumed, suspended_more, CountStep, ResumeStep, SuspendStep}
+use Rattle.win32_spec.specs.ProcessCalls.{live_of, live_process, resumed, suspended_more, CountStep, ResumeStep}
+use Rattle.win32_spec.specs.ProcessCalls.{SuspendStep}
 use Rattle.win32_spec.specs.WellFormed.{AreThreads}
 use Rattle.win32_spec.specs.LookupLaws.{same_some}
 use Rattle.win32_spec.specs.Tame.{posted_by, PostTheSame, ProcessBecomes}

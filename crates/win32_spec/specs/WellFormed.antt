@@ -1,12 +1,14 @@
 -- What a state keeps to, from the opening on: well-formed states.
-use Rattle.std.specs.Prelude.{◌≡◌, ℕ, ◌+◌, ◌≤◌, ◌<◌, Bool, true, false, List, [], ◌∷◌, length, Option, Some, None, slice_get, MatchOption}
+use Rattle.std.specs.Prelude.{◌≡◌, ℕ, ◌+◌, ◌≤◌, ◌<◌, Bool, true, false, List, [], ◌∷◌, length, Option, Some, None}
+use Rattle.std.specs.Prelude.{slice_get, MatchOption}
 use Rattle.w32_base.specs.declared.own.Own.{Own}
 use Rattle.w32_base.specs.declared.setup.Module.{Module}
 use Rattle.w32_base.specs.declared.setup.Program.{Program}
 use Rattle.script_spec.specs.declared.script.Script.{Script}
 use Rattle.win32_spec.specs.Handles.{handle_of, AreRisingFrom}
 use Rattle.win32_spec.specs.Objects.{Ownership, Free, Owned, Abandoned}
-use Rattle.win32_spec.specs.State.{Object, Section, Event, Mutex, Pipe, ProcessObject, TerminalObject, NumberedObject, Thread, PlacedModule, Life, Alive, Ended, Process, Win32State}
+use Rattle.win32_spec.specs.State.{Object, Section, Event, Mutex, Pipe, ProcessObject, TerminalObject, NumberedObject}
+use Rattle.win32_spec.specs.State.{Thread, PlacedModule, Life, Alive, Ended, Process, Win32State}
 use Rattle.win32_spec.specs.Lookup.{is_alive, no_memory, process_of, is_live, object_number, object_of}
 use Rattle.win32_spec.specs.Ends.{is_object_held, is_process_held}
 use Rattle.win32_spec.specs.Making.{threads_of}
