@@ -1,5 +1,5 @@
 -- How signals act: handlers that begin, discards, stops and notices keep a state well formed.
-use Rattle.std.specs.Prelude.{◌≡◌, ◌≢◌, ℕ, ◌+◌, ◌-◌, ℤ, Bool, true, false, ◌&&◌, not, nat_eq, nat_le, nat_lt, length}
+use Rattle.std.specs.Prelude.{◌≡◌, ℕ, ◌+◌, ◌-◌, ℤ, Bool, true, false, ◌&&◌, not, nat_eq, nat_le, nat_lt, length}
 use Rattle.std.specs.Prelude.{if◌then◌else◌, Some, None, bit_or}
 use Rattle.std.proofs.Common.{refl, sym, ap, subst, ◌∙◌, arith, true≢false}
 use Rattle.w32_base.specs.declared.event.Delivery.{Delivery}

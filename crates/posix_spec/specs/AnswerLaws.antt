@@ -1,5 +1,5 @@
 -- The results of steps, calls that end, and signals that are sent keep a state well formed.
-use Rattle.std.specs.Prelude.{◌≡◌, ◌≢◌, ℕ, ◌+◌, ℤ, Bool, true, false, nat_eq, if◌then◌else◌, Option, Some, None, bit_or}
+use Rattle.std.specs.Prelude.{◌≡◌, ℕ, ◌+◌, ℤ, Bool, true, false, nat_eq, if◌then◌else◌, Option, Some, None, bit_or}
 use Rattle.std.proofs.Common.{refl, sym, ap, subst, ◌∙◌, true≢false}
 use Rattle.std.proofs.lemmas.Bool.{cond_both}
 use Rattle.script_spec.specs.declared.script.Script.{Script}

@@ -1,5 +1,5 @@
 -- The end of a process keeps a state well formed.
-use Rattle.std.specs.Prelude.{◌≡◌, ◌≢◌, ℕ, ◌-◌, ◌^◌, ◌<◌, ℤ, Bool, true, false, cond, ◌&&◌, not, nat_eq, nat_lt, nat_le}
+use Rattle.std.specs.Prelude.{◌≡◌, ℕ, ◌-◌, ◌^◌, ◌<◌, ℤ, Bool, true, false, cond, ◌&&◌, not, nat_eq, nat_lt, nat_le}
 use Rattle.std.specs.Prelude.{if◌then◌else◌, Option, Some, None, bit_and}
 use Rattle.std.specs.Option.{unwrap_or}
 use Rattle.std.specs.Int.Bits.{and_zero_r}

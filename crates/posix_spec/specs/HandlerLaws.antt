@@ -1,5 +1,5 @@
 -- suspend, and how signals act: handlers that begin and return, discards, stops and notices keep a state well formed.
-use Rattle.std.specs.Prelude.{◌≡◌, ◌≢◌, ℕ, ℤ, true, false, nat_eq, Some}
+use Rattle.std.specs.Prelude.{◌≡◌, ℕ, ℤ, true, nat_eq, Some}
 use Rattle.std.specs.Option.{unwrap_or}
 use Rattle.std.proofs.Common.{refl, sym, ap, subst, ◌∙◌, arith, true≢false, eqb-true, le-leb, ltb-false}
 use Rattle.w32_base.specs.declared.event.Event.TheVariants as event

@@ -1,5 +1,5 @@
 -- A change of one process that keeps its place among the others keeps a state well formed.
-use Rattle.std.specs.Prelude.{◌≡◌, ◌≢◌, ℕ, Bool, true, false, cond, ◌&&◌, nat_eq, Option, Some, None, IsTrue}
+use Rattle.std.specs.Prelude.{◌≡◌, ℕ, Bool, true, false, cond, ◌&&◌, nat_eq, Option, Some, None, IsTrue}
 use Rattle.std.proofs.Common.{refl, sym, ap, subst, ◌∙◌, arith, eqb-true, true≢false}
 use Rattle.script_spec.specs.declared.script.Script.{Script}
 use Rattle.posix_spec.specs.State.{Numbers, Record, PosixState, record_of}

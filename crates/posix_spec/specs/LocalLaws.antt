@@ -1,5 +1,5 @@
 -- An image stays one of a program of its script through a block of local instructions; and so does the first one.
-use Rattle.std.specs.Prelude.{◌≡◌, ℕ, zero, suc, ◌+◌, ◌-◌, ◌^◌, ◌<◌, ◌≤◌, ℤ, ◌+ℤ◌, pos, Bool, true, false}
+use Rattle.std.specs.Prelude.{◌≡◌, ℕ, zero, suc, ◌+◌, ◌-◌, ◌^◌, ◌<◌, ◌≤◌, ◌+ℤ◌, pos, Bool, true, false}
 use Rattle.std.specs.Prelude.{if◌then◌else◌, List, length, slice_index, slice_get, Some, IsTrue, IsSomeAnd, replicate}
 use Rattle.std.specs.Int.{w32, cast_unsigned, cast_signed, int_wrap}
 use Rattle.std.proofs.Common.{refl, sym, ap, subst, ◌∙◌, arith, length-set, ltb-true, ltb-false}

@@ -6,7 +6,7 @@ use Rattle.std.specs.FinSet as set
 use Rattle.std.specs.FinMap as map
 use Rattle.std.proofs.Common.{refl, sym, ap, ◌∙◌, arith, true≢false, eqb-true, eq-eqb, ne_eqb, lt-ltb}
 use Rattle.posix_spec.specs.State.{GroupCall, Record, PosixState, record_of}
-use Rattle.posix_spec.specs.Records.{numbers_where, numbers_of, some_record, members}
+use Rattle.posix_spec.specs.Records.{numbers_where, numbers_of, some_record}
 use Rattle.posix_spec.specs.GroupCalls.{is_complete}
 use Rattle.posix_spec.specs.TestLaws.{every_record-is, every_record-from}
 

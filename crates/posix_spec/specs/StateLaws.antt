@@ -1,5 +1,5 @@
 -- Changes of a state's other parts than its processes keep it well formed.
-use Rattle.std.specs.Prelude.{◌≡◌, ℕ, Bool, true, false, Option, Some, None, List}
+use Rattle.std.specs.Prelude.{◌≡◌, ℕ, Bool, true, Option, Some, None, List}
 use Rattle.std.proofs.Common.{refl, sym, subst, true≢false, eqb-true}
 use Rattle.script_spec.specs.declared.script.Script.{Script}
 use Rattle.tty_spec.specs.Terminal.{Terminal}

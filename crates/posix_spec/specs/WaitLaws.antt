@@ -1,5 +1,5 @@
 -- Waits, and calls that block, keep a state well formed.
-use Rattle.std.specs.Prelude.{◌≡◌, ◌≢◌, ℕ, ℤ, pos, Bool, true, false, cond, ◌&&◌, not, nat_eq, Option, Some, None}
+use Rattle.std.specs.Prelude.{◌≡◌, ℕ, ℤ, pos, Bool, true, false, cond, ◌&&◌, not, nat_eq, Option, Some, None}
 use Rattle.std.specs.Prelude.{is_some}
 use Rattle.std.specs.FinSet as set
 use Rattle.std.proofs.Common.{refl, sym, ap, subst, ◌∙◌, arith, true≢false, eqb-true}
@@ -13,7 +13,7 @@ use Rattle.posix_spec.specs.State.{Life, Running, Stopped, Zombie, Numbers, Call
 use Rattle.posix_spec.specs.State.{Record, PosixState, record_of}
 use Rattle.posix_spec.specs.Records.{without_record, change_record}
 use Rattle.posix_spec.specs.Conditions.{is_group_call, answered_both}
-use Rattle.posix_spec.specs.Waits.{Wait, wait_of, is_match, death_to_report, has_report, looked_at}
+use Rattle.posix_spec.specs.Waits.{Wait, wait_of, is_match, death_to_report, looked_at}
 use Rattle.posix_spec.specs.WaitSteps.{is_looked_at, with_look, look_by, look_step, can_block, blocked, block_step}
 use Rattle.posix_spec.specs.WaitSteps.{is_reaped, reap_by, reap_step, is_reported, reported, report_by, report_step}
 use Rattle.posix_spec.specs.DeathSteps.{is_zombie}
