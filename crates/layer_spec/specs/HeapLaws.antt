@@ -104,7 +104,7 @@ size_of_all size is_fit encode read law (x ∷ xs) =
       size_of_all size is_fit encode read law xs,
     )
 
-length-head_of : (mask owed : ℕ) (saved : Option ℕ) → length (head_of mask owed saved) ≡ 16
+pub length-head_of : (mask owed : ℕ) (saved : Option ℕ) → length (head_of mask owed saved) ≡ 16
 unfolding head_of
 length-head_of mask owed saved = refl
 
@@ -146,40 +146,40 @@ places_fit s (a ∷ rest) h =
     let both = and_parts (is_action s a) (are_actions (s + 1) rest) h in
     and_from (fits_place a) (list_all fits_place rest) (place_fits s a both.0) (places_fit (s + 1) rest both.1)
 
-tail_of : HeapFields → List ℕ
+pub tail_of : HeapFields → List ℕ
 tail_of h = flat_map child_bytes h.children ++ replicate (4 * (32 - length h.children)) 0
 
 -- the bytes before and behind the actions, the bases, the number of children, and the children
-around_actions : (h : HeapFields) → heap_bytes h ≡ head_of h.mask h.owed h.saved
+pub around_actions : (h : HeapFields) → heap_bytes h ≡ head_of h.mask h.owed h.saved
     ++ (flat_map action_bytes h.actions ++ (flat_map two_bytes h.bases
     ++ (four_bytes (length h.children) ++ tail_of h)))
 unfolding heap_bytes head_of tail_of
 around_actions h = simp append_assoc
 
-before_bases : HeapFields → List ℕ
+pub before_bases : HeapFields → List ℕ
 before_bases h = head_of h.mask h.owed h.saved ++ flat_map action_bytes h.actions
 
-around_bases : (h : HeapFields)
+pub around_bases : (h : HeapFields)
     → heap_bytes h ≡ before_bases h ++ (flat_map two_bytes h.bases ++ (four_bytes (length h.children) ++ tail_of h))
 unfolding heap_bytes head_of tail_of before_bases
 around_bases h = simp append_assoc
 
-before_count : HeapFields → List ℕ
+pub before_count : HeapFields → List ℕ
 before_count h = before_bases h ++ flat_map two_bytes h.bases
 
-around_count : (h : HeapFields) → heap_bytes h ≡ before_count h ++ (four_bytes (length h.children) ++ tail_of h)
+pub around_count : (h : HeapFields) → heap_bytes h ≡ before_count h ++ (four_bytes (length h.children) ++ tail_of h)
 unfolding heap_bytes head_of tail_of before_bases before_count
 around_count h = simp append_assoc
 
-before_children : HeapFields → List ℕ
+pub before_children : HeapFields → List ℕ
 before_children h = before_count h ++ four_bytes (length h.children)
 
-around_children : (h : HeapFields) → heap_bytes h ≡ before_children h
+pub around_children : (h : HeapFields) → heap_bytes h ≡ before_children h
     ++ (flat_map child_bytes h.children ++ replicate (4 * (32 - length h.children)) 0)
 unfolding heap_bytes head_of before_bases before_count before_children
 around_children h = simp append_assoc
 
-length-before_bases : (h : HeapFields) → HeapSizes h → length (before_bases h) ≡ 140
+pub length-before_bases : (h : HeapFields) → HeapSizes h → length (before_bases h) ≡ 140
 unfolding before_bases
 length-before_bases h sizes =
     omega (
@@ -189,7 +189,7 @@ length-before_bases h sizes =
       sizes.action_size,
     )
 
-length-before_count : (h : HeapFields) → HeapSizes h → length (before_count h) ≡ 156
+pub length-before_count : (h : HeapFields) → HeapSizes h → length (before_count h) ≡ 156
 unfolding before_count
 length-before_count h sizes =
     omega (
@@ -199,7 +199,7 @@ length-before_count h sizes =
       sizes.base_size,
     )
 
-length-before_children : (h : HeapFields) → HeapSizes h → length (before_children h) ≡ 160
+pub length-before_children : (h : HeapFields) → HeapSizes h → length (before_children h) ≡ 160
 unfolding before_children
 length-before_children h sizes =
     omega (arith, length-append (before_count h) (four_bytes (length h.children)), length-before_count h sizes)
