@@ -1,13 +1,13 @@
 -- The bytes of a cygheap's children fit, and so do all of a cygheap's.
-use Rattle.std.specs.Prelude.{◌≡◌, ℕ, zero, suc, ◌+◌, ◌-◌, ◌*◌, ◌/◌, ◌%◌, ◌^◌, ◌≤◌, ◌<◌, Bool, true, false, nat_eq, nat_le, nat_lt, if◌then◌else◌, List, [], ◌∷◌, ◌++◌, length, flat_map, replicate}
+use Rattle.std.specs.Prelude.{◌≡◌, ℕ, zero, suc, ◌+◌, ◌-◌, ◌*◌, ◌/◌, ◌%◌, ◌≤◌, ◌<◌, true, nat_eq, nat_le, if◌then◌else◌, List, [], ◌∷◌, ◌++◌, length, flat_map, replicate}
 use Rattle.std.specs.List.{list_all}
 use Rattle.std.proofs.Common.{inl, inr, refl, sym, ◌∙◌, ap, subst, arith, append_assoc, length-append}
-use Rattle.std.proofs.lemmas.Bool.{cases_lt, lt-ltb, le-ltb, le-leb, eq-eqb, leb-true, and_parts}
+use Rattle.std.proofs.lemmas.Bool.{cases_lt, lt-ltb, le-ltb, le-leb, eq-eqb, and_parts}
 use Rattle.std.proofs.lemmas.Bool.Decides.{nat_tests}
-use Rattle.layer_spec.specs.Heap.{HeapChild, HeapFields, IsHeap, is_child, is_base, two_bytes, four_bytes, action_bytes, child_bytes, heap_bytes}
+use Rattle.layer_spec.specs.Heap.{HeapChild, HeapFields, IsHeap, is_child, two_bytes, four_bytes, child_bytes, heap_bytes}
 use Rattle.layer_spec.specs.HeapReads.{byte_at}
 use Rattle.layer_spec.specs.HeapLaws.{HeapSizes, heap_sizes, head_of, tail_of, around_actions, before_bases, around_bases, before_count, around_count, before_children, around_children, length-before_bases, length-before_count, length-before_children}
-use Rattle.layer_spec.specs.HeapBreaks.{fits_child, fits_at}
+use Rattle.layer_spec.specs.HeapBreaks.{fits_at}
 use Rattle.layer_spec.specs.ReadLaws.{byte_at-behind, byte_at-seam}
 use Rattle.layer_spec.specs.OpeningLaws.{zero_at}
 use Rattle.layer_spec.specs.BreakParts.{fits_in_count, fits_in_children}
@@ -30,10 +30,10 @@ child_fits_at k n c before rest i ok size count within low high =
     let place : i % 4 ≡ j = omega arith in
     let at : i ≡ length before + j = omega arith in
     let here : byte_at bytes i ≡ byte_at (child_bytes c ++ rest) j
-        = ap (byte_at bytes) at ∙ byte_at-behind before (child_bytes c ++ rest) j in
+    = ap (byte_at bytes) at ∙ byte_at-behind before (child_bytes c ++ rest) j in
     let first : j ≡ 1 → byte_at bytes (i - 1) ≡ c.number % 256
-        = λ e. let start : i - 1 ≡ length before = omega arith in
-            ap (byte_at bytes) start ∙ byte_at-seam before (child_bytes c ++ rest) in
+    = λ e. let start : i - 1 ≡ length before = omega arith in
+    ap (byte_at bytes) start ∙ byte_at-seam before (child_bytes c ++ rest) in
     fits_in_children bytes i (byte_at bytes i) (omega arith)
     ∙ rw (number, count, lt-ltb k n within, place, here) (child_fits c rest j (byte_at bytes (i - 1)) (omega arith) ok first)
 
@@ -46,19 +46,19 @@ children_fit k n (c ∷ children) before after i ok size count to low high =
     let others : List ℕ = flat_map child_bytes children in
     let both = and_parts (is_child c) (list_all is_child children) ok in
     let nested : before ++ ((child_bytes c ++ others) ++ after) ≡ before ++ (child_bytes c ++ (others ++ after))
-        = ap (λ bytes. before ++ bytes) (append_assoc (child_bytes c) others after) in
+    = ap (λ bytes. before ++ bytes) (append_assoc (child_bytes c) others after) in
     let moved : before ++ ((child_bytes c ++ others) ++ after) ≡ (before ++ child_bytes c) ++ (others ++ after)
-        = nested ∙ sym (append_assoc before (child_bytes c) (others ++ after)) in
+    = nested ∙ sym (append_assoc before (child_bytes c) (others ++ after)) in
     elim (cases_lt i (164 + 4 * k)) [
-      inl now ↦ subst (λ (bytes : List ℕ). Fits bytes i) (sym nested)
-        (child_fits_at k n c before (others ++ after) i both.0 size
+      | inl now ↦ subst (λ (bytes : List ℕ). Fits bytes i) (sym nested)
+          (child_fits_at k n c before (others ++ after) i both.0 size
           (subst (λ (bytes : List ℕ). byte_at bytes 156 ≡ n) nested count) (omega arith) low now)
-    | inr later ↦
-        let further : length (before ++ child_bytes c) ≡ 160 + 4 * (k + 1)
-            = omega (arith, length-append before (child_bytes c), size) in
-        subst (λ (bytes : List ℕ). Fits bytes i) (sym moved)
+      | inr later ↦
+          let further : length (before ++ child_bytes c) ≡ 160 + 4 * (k + 1)
+          = omega (arith, length-append before (child_bytes c), size) in
+          subst (λ (bytes : List ℕ). Fits bytes i) (sym moved)
           (children_fit (k + 1) n children (before ++ child_bytes c) after i both.1 further
-            (subst (λ (bytes : List ℕ). byte_at bytes 156 ≡ n) moved count) (omega arith) (omega arith) (omega arith))
+          (subst (λ (bytes : List ℕ). byte_at bytes 156 ≡ n) moved count) (omega arith) (omega arith) (omega arith))
     ]
 
 -- past the last child stand zeros
@@ -95,7 +95,7 @@ count_fits n before after i few size low high =
     let j : ℕ = i - 156 in
     let at : i ≡ length before + j = omega arith in
     let here : byte_at bytes i ≡ byte_at (four_bytes n ++ after) j
-        = ap (byte_at bytes) at ∙ byte_at-behind before (four_bytes n ++ after) j in
+    = ap (byte_at bytes) at ∙ byte_at-behind before (four_bytes n ++ after) j in
     let test : nat_eq i 156 ≡ nat_eq j 0 = same_test i j (length before) at size in
     fits_in_count bytes i (byte_at bytes i) low high ∙ rw (test, here) (count_byte n after j (omega arith) few)
 
@@ -104,7 +104,7 @@ count_found : (n : ℕ) (before after : List ℕ) → n ≤ 32 → length before
 count_found n before after few size =
     let whole : n % 256 ≡ n = omega arith in
     subst (λ (i : ℕ). byte_at (before ++ (four_bytes n ++ after)) i ≡ n) size
-      (byte_at-seam before (four_bytes n ++ after) ∙ whole)
+    (byte_at-seam before (four_bytes n ++ after) ∙ whole)
 
 heap_count : (h : HeapFields) → HeapSizes h → byte_at (heap_bytes h) 156 ≡ length h.children
 heap_count h sizes = rw (around_count h)
@@ -113,20 +113,20 @@ heap_count h sizes = rw (around_count h)
 lists_fit : (h : HeapFields) → IsHeap h → HeapSizes h → (i : ℕ) → 16 ≤ i → i < 160 → Fits (heap_bytes h) i
 unfolding Fits
 lists_fit h legal sizes i from to = elim (cases_lt i 140) [
-    inl actions ↦ subst (λ (bytes : List ℕ). Fits bytes i) (sym (around_actions h))
+  | inl actions ↦ subst (λ (bytes : List ℕ). Fits bytes i) (sym (around_actions h))
       (actions_fit 1 h.actions (head_of h.mask h.owed h.saved)
-        (flat_map two_bytes h.bases ++ (four_bytes (length h.children) ++ tail_of h)) i legal.actions
-        (omega (arith, sizes.head_size)) (omega arith) (omega (arith, legal.action_count)) (omega arith)
-        (omega (arith, legal.action_count)))
+      (flat_map two_bytes h.bases ++ (four_bytes (length h.children) ++ tail_of h)) i legal.actions
+      (omega (arith, sizes.head_size)) (omega arith) (omega (arith, legal.action_count)) (omega arith)
+      (omega (arith, legal.action_count)))
   | inr from_140 ↦ elim (cases_lt i 156) [
-      inl bases ↦ subst (λ (bytes : List ℕ). Fits bytes i) (sym (around_bases h))
+    | inl bases ↦ subst (λ (bytes : List ℕ). Fits bytes i) (sym (around_bases h))
         (bases_fit 0 h.bases (before_bases h) (four_bytes (length h.children) ++ tail_of h) i legal.bases
-          (omega (arith, length-before_bases h sizes)) (omega (arith, legal.base_count)) (omega arith)
-          (omega (arith, legal.base_count)))
+        (omega (arith, length-before_bases h sizes)) (omega (arith, legal.base_count)) (omega arith)
+        (omega (arith, legal.base_count)))
     | inr from_156 ↦ subst (λ (bytes : List ℕ). Fits bytes i) (sym (around_count h))
         (count_fits (length h.children) (before_count h) (tail_of h) i sizes.few (length-before_count h sizes) from_156 to)
-    ]
   ]
+]
 
 tail_fits : (h : HeapFields) → IsHeap h → HeapSizes h → (i : ℕ) → 160 ≤ i → Fits (heap_bytes h) i
 tail_fits h legal sizes i from =
@@ -134,27 +134,27 @@ tail_fits h legal sizes i from =
     let children : List ℕ = flat_map child_bytes h.children in
     let count = heap_count h sizes in
     elim (cases_lt i (160 + 4 * length h.children)) [
-      inl listed ↦ subst (λ (bytes : List ℕ). Fits bytes i) (sym (around_children h))
-        (children_fit 0 (length h.children) h.children (before_children h) zeros i legal.children
+      | inl listed ↦ subst (λ (bytes : List ℕ). Fits bytes i) (sym (around_children h))
+          (children_fit 0 (length h.children) h.children (before_children h) zeros i legal.children
           (omega (arith, length-before_children h sizes))
           (subst (λ (bytes : List ℕ). byte_at bytes 156 ≡ length h.children) (around_children h) count)
           (omega arith) (omega arith) (omega arith))
-    | inr past ↦
-        let around : heap_bytes h ≡ (before_children h ++ children) ++ zeros
-            = around_children h ∙ sym (append_assoc (before_children h) children zeros) in
-        subst (λ (bytes : List ℕ). Fits bytes i) (sym around)
+      | inr past ↦
+          let around : heap_bytes h ≡ (before_children h ++ children) ++ zeros
+          = around_children h ∙ sym (append_assoc (before_children h) children zeros) in
+          subst (λ (bytes : List ℕ). Fits bytes i) (sym around)
           (zeros_fit (length h.children) (4 * (32 - length h.children)) (before_children h ++ children) i
-            (omega (arith, length-append (before_children h) children, length-before_children h sizes, sizes.child_size))
-            (subst (λ (bytes : List ℕ). byte_at bytes 156 ≡ length h.children) around count) past)
+          (omega (arith, length-append (before_children h) children, length-before_children h sizes, sizes.child_size))
+          (subst (λ (bytes : List ℕ). byte_at bytes 156 ≡ length h.children) around count) past)
     ]
 
 -- the bytes of a cygheap fit
 pub heap_fits : (h : HeapFields) → IsHeap h → FitBelow (heap_bytes h) 288
 unfolding Fits
 heap_fits h legal i to = elim (cases_lt i 16) [
-    inl head ↦ head_fits h legal i head
+  | inl head ↦ head_fits h legal i head
   | inr from_16 ↦ elim (cases_lt i 160) [
-      inl list ↦ lists_fit h legal (heap_sizes h legal) i from_16 list
+    | inl list ↦ lists_fit h legal (heap_sizes h legal) i from_16 list
     | inr from_160 ↦ tail_fits h legal (heap_sizes h legal) i from_160
-    ]
   ]
+]

@@ -1,14 +1,17 @@
--- The test of each byte finds the place at which bytes break a cygheap's layout, where it lets through exactly the
--- bytes that keep the layout.
-use Rattle.std.specs.Prelude.{◌≡◌, ℕ, suc, ◌+◌, ◌-◌, ◌≤◌, ◌<◌, Bool, true, false, if◌then◌else◌, List, [], ◌∷◌, length, take, Option, Some, None}
+-- The test of each byte lets through exactly the bytes that keep a cygheap's layout, and finds the place at which all
+-- others break it.
+use Rattle.std.specs.Prelude.{◌≡◌, ◌↔◌, ℕ, suc, ◌+◌, ◌-◌, ◌≤◌, ◌<◌, Bool, true, false, if◌then◌else◌, List, [], ◌∷◌, length, take, Option, Some, None}
 use Rattle.std.proofs.Common.{inl, inr, refl, sym, ◌∙◌, ap, subst, arith, get_or}
-use Rattle.std.proofs.lemmas.Bool.{cases_eq, true≢false}
+use Rattle.std.proofs.lemmas.Bool.{cases_eq, cases_order, true≢false, eq-eqb, ne_eqb}
 use Rattle.std.proofs.lemmas.List.{length-take-le, get_or-take}
-use Rattle.layer_spec.specs.Heap.{HeapFields, IsHeap, heap_bytes, IsHeapBytes}
+use Rattle.layer_spec.specs.Heap.{heap_bytes, IsHeapBytes}
 use Rattle.layer_spec.specs.HeapReads.{byte_at}
-use Rattle.layer_spec.specs.HeapBreaks.{BeginsHeap, BreaksAt, LeastPlace, fits_at, first_misfit}
+use Rattle.layer_spec.specs.HeapLaws.{length-heap_bytes}
+use Rattle.layer_spec.specs.HeapBreaks.{BeginsHeap, BreaksAt, WrongLength, LeastPlace, fits_at, first_misfit, first_break}
 use Rattle.layer_spec.specs.BreakParts.{fits_alike}
 use Rattle.layer_spec.specs.BreakFits.{FitBelow, complete}
+use Rattle.layer_spec.specs.BreakChildren.{heap_fits}
+use Rattle.layer_spec.specs.BreakAll.{fit_is_heap}
 
 -- bytes that are the same below a place fit alike there
 pub fit_alike : (a b : List ℕ) (n : ℕ) → ((j : ℕ) → j < n → byte_at a j ≡ byte_at b j) → FitBelow a n → FitBelow b n
@@ -68,31 +71,26 @@ pub break_found : (bytes : List ℕ) → length bytes ≡ 288 → Found bytes 0 
 break_found bytes size = subst (λ (n : ℕ). Found bytes 0 n (first_misfit bytes 0 bytes)) size
     (misfit_found bytes 0 bytes (λ k h. let place : 0 + k ≡ k = omega arith in ap (byte_at bytes) place))
 
--- What is still to be shown of the test: the bytes of the layout fit, and 288 bytes that fit keep the layout.
-pub record IsExactTest : Type 0 where
-  pub sound : (h : HeapFields) → IsHeap h → FitBelow (heap_bytes h) 288
-  pub whole : (bytes : List ℕ) → length bytes ≡ 288 → FitBelow bytes 288 → IsHeapBytes bytes
-
--- By it some bytes of the layout begin with the first n of 288 bytes exactly where these fit.
-pub fit_where_begun : IsExactTest → (bytes : List ℕ) (n : ℕ) → length bytes ≡ 288 → n ≤ 288
+-- Some bytes of the layout begin with the first n of 288 bytes exactly where these fit.
+pub fit_where_begun : (bytes : List ℕ) (n : ℕ) → length bytes ≡ 288 → n ≤ 288
     → BeginsHeap (take n bytes) → FitBelow bytes n
-fit_where_begun exact bytes n size within begun =
+fit_where_begun bytes n size within begun =
     let count : length (take n bytes) ≡ n = length-take-le n bytes (omega arith) in
     let front : take n (heap_bytes begun.fields) ≡ take n bytes
     = subst (λ (m : ℕ). take m (heap_bytes begun.fields) ≡ take n bytes) count begun.begins in
     fit_alike (heap_bytes begun.fields) bytes n
     (λ j l. sym (get_or-take n (heap_bytes begun.fields) j 0 l)
     ∙ ap (λ (xs : List ℕ). get_or xs j 0) front ∙ get_or-take n bytes j 0 l)
-    (λ k l. exact.sound begun.fields begun.legal k (omega arith))
+    (λ k l. heap_fits begun.fields begun.legal k (omega arith))
 
-pub begun_where_fit : IsExactTest → (bytes : List ℕ) (n : ℕ) → length bytes ≡ 288 → n ≤ 288
+pub begun_where_fit : (bytes : List ℕ) (n : ℕ) → length bytes ≡ 288 → n ≤ 288
     → FitBelow bytes n → BeginsHeap (take n bytes)
-begun_where_fit exact bytes n size within fit =
+begun_where_fit bytes n size within fit =
     let count : length (take n bytes) ≡ n = length-take-le n bytes (omega arith) in
     let there : FitBelow (take n bytes) n = fit_alike bytes (take n bytes) n
-        (λ j l. sym (get_or-take n bytes j 0 l)) fit in
+    (λ j l. sym (get_or-take n bytes j 0 l)) fit in
     let done = complete (288 - n) (take n bytes) (omega arith) (subst (FitBelow (take n bytes)) (sym count) there) in
-    let kept = exact.whole done.whole done.size done.fits in
+    let kept = fit_is_heap done.whole done.size done.fits in
     record {
       fields = kept.fields;
       legal = kept.legal;
@@ -100,35 +98,85 @@ begun_where_fit exact bytes n size within fit =
     }
 
 -- So the test lets through exactly the bytes that keep the layout,
-none_found : IsExactTest → (bytes : List ℕ) → length bytes ≡ 288 → (o : Option ℕ) → Found bytes 0 288 o
+none_found : (bytes : List ℕ) → length bytes ≡ 288 → (o : Option ℕ) → Found bytes 0 288 o
     → (o ≡ None → IsHeapBytes bytes) × (IsHeapBytes bytes → o ≡ None)
 unfolding Found
-none_found exact bytes size None found =
-    (λ _. exact.whole bytes size (λ k h. found k (omega arith) (omega arith)), λ _. refl)
-none_found exact bytes size (Some place) found = (
+none_found bytes size None found =
+    (λ _. fit_is_heap bytes size (λ k h. found k (omega arith) (omega arith)), λ _. refl)
+none_found bytes size (Some place) found = (
   λ e. cc,
   λ kept. absurd (true≢false (sym (subst (λ (xs : List ℕ). fits_at xs place (byte_at xs place) ≡ true)
-      (sym kept.layout) (exact.sound kept.fields kept.legal place (omega (arith, found.to)))) ∙ found.there)),
+      (sym kept.layout) (heap_fits kept.fields kept.legal place (omega (arith, found.to)))) ∙ found.there)),
 )
 
-pub kept_where_none : IsExactTest → (bytes : List ℕ) → length bytes ≡ 288
+pub kept_where_none : (bytes : List ℕ) → length bytes ≡ 288
     → (first_misfit bytes 0 bytes ≡ None → IsHeapBytes bytes) × (IsHeapBytes bytes → first_misfit bytes 0 bytes ≡ None)
-kept_where_none exact bytes size = none_found exact bytes size (first_misfit bytes 0 bytes) (break_found bytes size)
+kept_where_none bytes size = none_found bytes size (first_misfit bytes 0 bytes) (break_found bytes size)
 
 -- and finds the place at which others break it.
-place_found : IsExactTest → (bytes : List ℕ) → length bytes ≡ 288 → (place : ℕ) (o : Option ℕ) → Found bytes 0 288 o
+place_found : (bytes : List ℕ) → length bytes ≡ 288 → (place : ℕ) (o : Option ℕ) → Found bytes 0 288 o
     → o ≡ Some place → BreaksAt bytes place
 unfolding Found
-place_found exact bytes size place None found e = cc
-place_found exact bytes size place (Some p) found e =
+place_found bytes size place None found e = cc
+place_found bytes size place (Some p) found e =
     let same : p ≡ place = cc in
     let within : p < 288 = omega (arith, found.to) in
     subst (BreaksAt bytes) same (LeastPlace p size within
-    (begun_where_fit exact bytes p size (omega arith) (λ k h. found.before k (omega arith) h))
+    (begun_where_fit bytes p size (omega arith) (λ k h. found.before k (omega arith) h))
     (λ begun. true≢false
-    (sym (fit_where_begun exact bytes (p + 1) size (omega arith) begun p (omega arith)) ∙ found.there)))
+    (sym (fit_where_begun bytes (p + 1) size (omega arith) begun p (omega arith)) ∙ found.there)))
 
-pub breaks_where_found : IsExactTest → (bytes : List ℕ) (place : ℕ) → length bytes ≡ 288
+pub breaks_where_found : (bytes : List ℕ) (place : ℕ) → length bytes ≡ 288
     → first_misfit bytes 0 bytes ≡ Some place → BreaksAt bytes place
-breaks_where_found exact bytes place size e =
-    place_found exact bytes size place (first_misfit bytes 0 bytes) (break_found bytes size) e
+breaks_where_found bytes place size e =
+    place_found bytes size place (first_misfit bytes 0 bytes) (break_found bytes size) e
+
+-- where they break it, the test finds that place
+least_found : (bytes : List ℕ) → length bytes ≡ 288 → (place : ℕ) → place < 288 → FitBelow bytes place
+    → (FitBelow bytes (place + 1) → ⊥) → (o : Option ℕ) → Found bytes 0 288 o → o ≡ Some place
+unfolding Found
+least_found bytes size place within below no_more None found =
+    absurd (no_more (λ k h. found k (omega arith) (omega arith)))
+least_found bytes size place within below no_more (Some p) found = elim (cases_order p place) [
+  | inl e ↦ ap Some e
+  | inr other ↦ elim other [
+    | inl less ↦ absurd (true≢false (sym (below p less) ∙ found.there))
+    | inr more ↦ absurd (no_more (λ k h. found.before k (omega arith) (omega arith)))
+  ]
+]
+
+-- Exactly the bytes that keep the layout have no break,
+pub break_none : (bytes : List ℕ) → (first_break bytes ≡ None) ↔ IsHeapBytes bytes
+break_none bytes = elim (cases_eq (length bytes) 288) [
+  | inl size ↦ let test = eq-eqb (length bytes) 288 size in (
+    (λ e. (kept_where_none bytes size).0 (sym (ap (λ t. (if t then first_misfit bytes 0 bytes else Some 288)) test) ∙ e)),
+    (λ kept. ap (λ t. (if t then first_misfit bytes 0 bytes else Some 288)) test ∙ (kept_where_none bytes size).1 kept),
+  )
+  | inr other ↦ let test = ne_eqb (length bytes) 288 other in (
+    (λ e. let some = sym (ap (λ t. (if t then first_misfit bytes 0 bytes else Some 288)) test) ∙ e in cc),
+    (λ kept. absurd (other (ap length kept.layout ∙ length-heap_bytes kept.fields kept.legal))),
+  )
+]
+
+-- and of all others the break is the place at which they break it.
+break_of : (bytes : List ℕ) (place : ℕ) → BreaksAt bytes place → first_break bytes ≡ Some place
+break_of bytes place (WrongLength other) =
+    ap (λ t. (if t then first_misfit bytes 0 bytes else Some 288)) (ne_eqb (length bytes) 288 other)
+break_of bytes place (LeastPlace p size within begins breaks) =
+    ap (λ t. (if t then first_misfit bytes 0 bytes else Some 288)) (eq-eqb (length bytes) 288 size)
+    ∙ least_found bytes size p within (fit_where_begun bytes p size (omega arith) begins)
+    (λ fit. breaks (begun_where_fit bytes (p + 1) size (omega arith) fit))
+    (first_misfit bytes 0 bytes) (break_found bytes size)
+
+of_break : (bytes : List ℕ) (place : ℕ) → first_break bytes ≡ Some place → BreaksAt bytes place
+of_break bytes place e = elim (cases_eq (length bytes) 288) [
+  | inl size ↦ breaks_where_found bytes place size
+      (sym (ap (λ t. (if t then first_misfit bytes 0 bytes else Some 288)) (eq-eqb (length bytes) 288 size)) ∙ e)
+  | inr other ↦
+      let some = sym (ap (λ t. (if t then first_misfit bytes 0 bytes else Some 288)) (ne_eqb (length bytes) 288 other)) ∙ e in
+      let same : 288 ≡ place = cc in
+      subst (BreaksAt bytes) same (WrongLength other)
+]
+
+pub break_some : (bytes : List ℕ) (place : ℕ) → (first_break bytes ≡ Some place) ↔ BreaksAt bytes place
+break_some bytes place = (of_break bytes place, break_of bytes place)

@@ -1,8 +1,8 @@
 -- The bytes of a cygheap's actions, bases and children fit.
-use Rattle.std.specs.Prelude.{◌≡◌, ℕ, zero, suc, ◌+◌, ◌-◌, ◌*◌, ◌/◌, ◌%◌, ◌^◌, ◌≤◌, ◌<◌, Bool, true, false, ◌&&◌, ◌||◌, not, nat_eq, nat_le, nat_lt, if◌then◌else◌, List, [], ◌∷◌, ◌++◌, length, flat_map}
+use Rattle.std.specs.Prelude.{◌≡◌, ℕ, zero, suc, ◌+◌, ◌-◌, ◌*◌, ◌/◌, ◌%◌, ◌≤◌, ◌<◌, Bool, true, false, ◌&&◌, nat_eq, nat_le, if◌then◌else◌, List, [], ◌∷◌, ◌++◌, length, flat_map}
 use Rattle.std.specs.List.{list_all}
 use Rattle.std.proofs.Common.{inl, inr, refl, sym, ◌∙◌, ap, subst, arith, append_assoc, length-append}
-use Rattle.std.proofs.lemmas.Bool.{cases_lt, lt-ltb, le-ltb, le-leb, eq-eqb, leb-true, and_parts, and_from}
+use Rattle.std.proofs.lemmas.Bool.{cases_lt, lt-ltb, le-leb, leb-true, and_parts, and_from}
 use Rattle.std.proofs.lemmas.Bool.Decides.{nat_tests}
 use Rattle.w32_base.specs.declared.instr.Action.{Action}
 use Rattle.w32_base.specs.declared.instr.Action.TheVariants.{Default, Ignore, Handler}
@@ -12,7 +12,7 @@ use Rattle.layer_spec.specs.HeapReads.{byte_at}
 use Rattle.layer_spec.specs.HeapLaws.{action_size}
 use Rattle.layer_spec.specs.HeapBreaks.{is_byte, fits_action, fits_child, fits_at}
 use Rattle.layer_spec.specs.ReadLaws.{byte_at-behind, byte_at-seam}
-use Rattle.layer_spec.specs.BreakParts.{fits_in_actions, fits_in_bases, fits_in_children}
+use Rattle.layer_spec.specs.BreakParts.{fits_in_actions, fits_in_bases}
 use Rattle.layer_spec.specs.BreakFits.{zero_in_action}
 
 ignored_fits : (s : ℕ) → is_action s Ignore ≡ true → fits_action s 1 0 1 ≡ true
@@ -59,34 +59,34 @@ action_fits_at s a before rest i ok size from to low high =
     let place : i % 4 ≡ j = omega arith in
     let at : i ≡ length before + j = omega arith in
     let kind : byte_at bytes (i - i % 4) ≡ byte_at (action_bytes a ++ rest) 0
-        = ap (byte_at bytes) start ∙ byte_at-seam before (action_bytes a ++ rest) in
+    = ap (byte_at bytes) start ∙ byte_at-seam before (action_bytes a ++ rest) in
     let here : byte_at bytes i ≡ byte_at (action_bytes a ++ rest) j
-        = ap (byte_at bytes) at ∙ byte_at-behind before (action_bytes a ++ rest) j in
+    = ap (byte_at bytes) at ∙ byte_at-behind before (action_bytes a ++ rest) j in
     fits_in_actions bytes i (byte_at bytes i) (omega arith) (omega arith)
     ∙ rw (kind, number, place, here) (action_fits s a rest j (omega arith) ok)
 
 pub actions_fit : (s : ℕ) (actions : List Action) (before after : List ℕ) (i : ℕ) → are_actions s actions ≡ true
     → length before ≡ 12 + 4 * s → 1 ≤ s → s + length actions ≤ 32 → 12 + 4 * s ≤ i → i < 12 + 4 * (s + length actions)
     → fits_at (before ++ (flat_map action_bytes actions ++ after)) i
-        (byte_at (before ++ (flat_map action_bytes actions ++ after)) i) ≡ true
+    (byte_at (before ++ (flat_map action_bytes actions ++ after)) i) ≡ true
 actions_fit s [] before after i ok size from to low high = absurd (omega arith)
 actions_fit s (a ∷ actions) before after i ok size from to low high =
     let others : List ℕ = flat_map action_bytes actions in
     let both = and_parts (is_action s a) (are_actions (s + 1) actions) ok in
     let inner : (action_bytes a ++ others) ++ after ≡ action_bytes a ++ (others ++ after)
-        = append_assoc (action_bytes a) others after in
+    = append_assoc (action_bytes a) others after in
     let nested : before ++ ((action_bytes a ++ others) ++ after) ≡ before ++ (action_bytes a ++ (others ++ after))
-        = ap (λ bytes. before ++ bytes) inner in
+    = ap (λ bytes. before ++ bytes) inner in
     elim (cases_lt i (16 + 4 * s)) [
-      inl now ↦ subst (λ (bytes : List ℕ). fits_at bytes i (byte_at bytes i) ≡ true) (sym nested)
-        (action_fits_at s a before (others ++ after) i both.0 size from (omega arith) low now)
-    | inr later ↦
-        let further : length (before ++ action_bytes a) ≡ 12 + 4 * (s + 1)
-            = omega (arith, length-append before (action_bytes a), action_size a, size) in
-        subst (λ (bytes : List ℕ). fits_at bytes i (byte_at bytes i) ≡ true)
+      | inl now ↦ subst (λ (bytes : List ℕ). fits_at bytes i (byte_at bytes i) ≡ true) (sym nested)
+          (action_fits_at s a before (others ++ after) i both.0 size from (omega arith) low now)
+      | inr later ↦
+          let further : length (before ++ action_bytes a) ≡ 12 + 4 * (s + 1)
+          = omega (arith, length-append before (action_bytes a), action_size a, size) in
+          subst (λ (bytes : List ℕ). fits_at bytes i (byte_at bytes i) ≡ true)
           (sym (nested ∙ sym (append_assoc before (action_bytes a) (others ++ after))))
           (actions_fit (s + 1) actions (before ++ action_bytes a) after i both.1 further (omega arith) (omega arith)
-            (omega arith) (omega arith))
+          (omega arith) (omega arith))
     ]
 
 -- byte j of a base
@@ -108,27 +108,27 @@ base_fits_at m n before rest i ok size to low high =
     let place : i % 2 ≡ j = omega arith in
     let at : i ≡ length before + j = omega arith in
     let here : byte_at bytes i ≡ byte_at (two_bytes n ++ rest) j
-        = ap (byte_at bytes) at ∙ byte_at-behind before (two_bytes n ++ rest) j in
+    = ap (byte_at bytes) at ∙ byte_at-behind before (two_bytes n ++ rest) j in
     fits_in_bases bytes i (byte_at bytes i) (omega arith) (omega arith)
     ∙ rw (place, here) (base_fits n rest j (omega arith) ok)
 
 pub bases_fit : (m : ℕ) (bases : List ℕ) (before after : List ℕ) (i : ℕ) → list_all is_base bases ≡ true
     → length before ≡ 140 + 2 * m → m + length bases ≤ 8 → 140 + 2 * m ≤ i → i < 140 + 2 * (m + length bases)
     → fits_at (before ++ (flat_map two_bytes bases ++ after)) i
-        (byte_at (before ++ (flat_map two_bytes bases ++ after)) i) ≡ true
+    (byte_at (before ++ (flat_map two_bytes bases ++ after)) i) ≡ true
 bases_fit m [] before after i ok size to low high = absurd (omega arith)
 bases_fit m (n ∷ bases) before after i ok size to low high =
     let others : List ℕ = flat_map two_bytes bases in
     let both = and_parts (is_base n) (list_all is_base bases) ok in
     let nested : before ++ ((two_bytes n ++ others) ++ after) ≡ before ++ (two_bytes n ++ (others ++ after))
-        = ap (λ bytes. before ++ bytes) (append_assoc (two_bytes n) others after) in
+    = ap (λ bytes. before ++ bytes) (append_assoc (two_bytes n) others after) in
     elim (cases_lt i (142 + 2 * m)) [
-      inl now ↦ subst (λ (bytes : List ℕ). fits_at bytes i (byte_at bytes i) ≡ true) (sym nested)
-        (base_fits_at m n before (others ++ after) i both.0 size (omega arith) low now)
-    | inr later ↦
-        let further : length (before ++ two_bytes n) ≡ 140 + 2 * (m + 1)
-            = omega (arith, length-append before (two_bytes n), size) in
-        subst (λ (bytes : List ℕ). fits_at bytes i (byte_at bytes i) ≡ true)
+      | inl now ↦ subst (λ (bytes : List ℕ). fits_at bytes i (byte_at bytes i) ≡ true) (sym nested)
+          (base_fits_at m n before (others ++ after) i both.0 size (omega arith) low now)
+      | inr later ↦
+          let further : length (before ++ two_bytes n) ≡ 140 + 2 * (m + 1)
+          = omega (arith, length-append before (two_bytes n), size) in
+          subst (λ (bytes : List ℕ). fits_at bytes i (byte_at bytes i) ≡ true)
           (sym (nested ∙ sym (append_assoc before (two_bytes n) (others ++ after))))
           (bases_fit (m + 1) bases (before ++ two_bytes n) after i both.1 further (omega arith) (omega arith) (omega arith))
     ]

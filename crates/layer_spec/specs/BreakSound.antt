@@ -1,16 +1,16 @@
 -- The bytes of a cygheap fit.
-use Rattle.std.specs.Prelude.{◌≡◌, ℕ, zero, suc, ◌+◌, ◌-◌, ◌*◌, ◌/◌, ◌%◌, ◌^◌, ◌≤◌, ◌<◌, Bool, true, false, ◌&&◌, ◌||◌, not, nat_eq, nat_le, nat_lt, if◌then◌else◌, List, [], ◌∷◌, ◌++◌, length, take, drop, bit_and, Option, Some, None}
+use Rattle.std.specs.Prelude.{◌≡◌, ℕ, zero, suc, ◌/◌, ◌%◌, ◌^◌, ◌≤◌, ◌<◌, true, nat_eq, List, bit_and, Option, Some, None}
 use Rattle.std.specs.Int.{bit_at}
-use Rattle.std.proofs.Common.{inl, inr, refl, sym, ◌∙◌, ap, subst, arith}
+use Rattle.std.proofs.Common.{refl, sym, ◌∙◌, ap, arith}
 use Rattle.std.proofs.lemmas.Nat.{and_le_r}
 use Rattle.std.proofs.lemmas.Nat.Bits.{bit_at_and}
-use Rattle.std.proofs.lemmas.Bool.{cases_lt, cases_eq, lt-ltb, eq-eqb, eqb-true, leb-true, and_parts}
+use Rattle.std.proofs.lemmas.Bool.{lt-ltb, eq-eqb, eqb-true, leb-true}
 use Rattle.std.proofs.lemmas.Bool.Decides.{nat_tests}
 use Rattle.w32_base.specs.declared.instr.Action.{Action}
 use Rattle.posix_spec.specs.Signals.{clean_mask}
 use Rattle.layer_spec.specs.Heap.{HeapChild, HeapFields, is_mask, is_saved_mask, IsHeap, heap_bytes}
 use Rattle.layer_spec.specs.HeapReads.{byte_at}
-use Rattle.layer_spec.specs.HeapBreaks.{is_byte, fits_head, fits_mask, fits_action, fits_child, fits_at}
+use Rattle.layer_spec.specs.HeapBreaks.{is_byte, fits_mask, fits_at}
 
 -- what a mask lacks
 pub record MaskBits (m : ℕ) : Type 0 where
@@ -59,7 +59,7 @@ fields_of mask owed saved actions bases children =
 head_at : (mask owed : ℕ) (saved : Option ℕ) (actions : List Action) (bases : List ℕ) (children : List HeapChild)
     → (is_mask mask ≡ true) × (is_saved_mask saved ≡ true) × (owed ≤ 65535) → (i : ℕ) → i < 16
     → fits_at (heap_bytes (fields_of mask owed saved actions bases children)) i
-        (byte_at (heap_bytes (fields_of mask owed saved actions bases children)) i) ≡ true
+    (byte_at (heap_bytes (fields_of mask owed saved actions bases children)) i) ≡ true
 unfolding heap_bytes
 head_at mask owed None actions bases children ok zero h = refl
 head_at mask owed None actions bases children ok (suc zero) h = refl

@@ -82,7 +82,7 @@ children_read = record {
 }
 
 -- the bytes before the actions
-pub head_of : (mask owed : ℕ) (saved : Option ℕ) → List ℕ
+unfoldable pub head_of : (mask owed : ℕ) (saved : Option ℕ) → List ℕ
 head_of mask owed saved =
     two_bytes 1 ++ two_bytes (saved_flag saved) ++ four_bytes mask ++ four_bytes (saved_mask saved) ++ four_bytes owed
 
@@ -146,7 +146,7 @@ places_fit s (a ∷ rest) h =
     let both = and_parts (is_action s a) (are_actions (s + 1) rest) h in
     and_from (fits_place a) (list_all fits_place rest) (place_fits s a both.0) (places_fit (s + 1) rest both.1)
 
-pub tail_of : HeapFields → List ℕ
+unfoldable pub tail_of : HeapFields → List ℕ
 tail_of h = flat_map child_bytes h.children ++ replicate (4 * (32 - length h.children)) 0
 
 -- the bytes before and behind the actions, the bases, the number of children, and the children
