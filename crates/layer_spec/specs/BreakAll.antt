@@ -41,14 +41,18 @@ mask_part : (bytes : List ℕ) (j : ℕ) → Whole bytes → j < 4 → fits_mask
 mask_part bytes j whole h =
     let place : 4 + j - 4 ≡ j = omega arith in
     sym (ap (λ n. fits_mask n (byte_at bytes (4 + j))) place)
-    ∙ sym (fits_in_mask bytes (4 + j) (byte_at bytes (4 + j)) (omega arith) (omega arith)) ∙ whole.fit (4 + j) (omega arith)
+    ∙ sym (fits_in_mask bytes (4 + j) (byte_at bytes (4 + j)) (omega arith) (omega arith))
+    ∙ whole.fit (4 + j) (omega arith)
 
 saved_part : (bytes : List ℕ) (j : ℕ) → Whole bytes → j < 4
-    → (if nat_eq (byte_at bytes 2) 1 then fits_mask j (byte_at bytes (8 + j)) else nat_eq (byte_at bytes (8 + j)) 0) ≡ true
+    → (if nat_eq (byte_at bytes 2) 1 then fits_mask j (byte_at bytes (8 + j)) else nat_eq (byte_at bytes (8 + j)) 0)
+    ≡ true
 saved_part bytes j whole h =
     let place : 8 + j - 8 ≡ j = omega arith in
-    sym (ap (λ n. (if nat_eq (byte_at bytes 2) 1 then fits_mask n (byte_at bytes (8 + j)) else nat_eq (byte_at bytes (8 + j)) 0)) place)
-    ∙ sym (fits_in_saved bytes (8 + j) (byte_at bytes (8 + j)) (omega arith) (omega arith)) ∙ whole.fit (8 + j) (omega arith)
+    sym (ap (λ n. (if nat_eq (byte_at bytes 2) 1 then fits_mask n (byte_at bytes (8 + j)) else nat_eq
+    (byte_at bytes (8 + j)) 0)) place)
+    ∙ sym (fits_in_saved bytes (8 + j) (byte_at bytes (8 + j)) (omega arith) (omega arith))
+    ∙ whole.fit (8 + j) (omega arith)
 
 flags_same : (bytes : List ℕ) → Whole bytes → half_at bytes 2 ≡ byte_at bytes 2
 flags_same bytes whole =
@@ -61,7 +65,8 @@ record SavedBack (bytes : List ℕ) (saved : Option ℕ) : Type 0 where
   flag : saved_flag saved ≡ byte_at bytes 2
   mask : four_bytes (saved_mask saved) ≡ take 4 (drop 8 bytes)
 
-saved_set : (bytes : List ℕ) → Whole bytes → nat_eq (byte_at bytes 2) 1 ≡ true → SavedBack bytes (Some (word_at bytes 8))
+saved_set : (bytes : List ℕ) → Whole bytes → nat_eq (byte_at bytes 2) 1 ≡ true
+    → SavedBack bytes (Some (word_at bytes 8))
 saved_set bytes whole set = record {
   legal = mask_at bytes 8 whole (omega arith) (λ j h.
       sym (ap (λ t. (if t then fits_mask j (byte_at bytes (8 + j)) else nat_eq (byte_at bytes (8 + j)) 0)) set)
@@ -123,7 +128,8 @@ fields_legal bytes whole =
       actions = actions_read_legal (λ s. action_at bytes (12 + 4 * s)) 1 31
           (λ k l h. (action_back bytes k whole l (omega arith)).1);
       base_count = refl;
-      bases = all_read is_base (λ m. half_at bytes (140 + 2 * m)) 0 8 (λ k l h. (base_back bytes k whole (omega arith)).1);
+      bases = all_read is_base (λ m. half_at bytes (140 + 2 * m)) 0 8
+          (λ k l h. (base_back bytes k whole (omega arith)).1);
       child_count = le-leb (length (heap_in bytes).children) 32 (omega (arith, number, count.few));
       children = all_read is_child (λ i. child_at bytes (160 + 4 * i)) 0 (word_at bytes 156)
           (λ k l h. (child_back bytes k whole (omega (arith, count.same)) (omega (arith, count.same, count.few))).1);
@@ -135,7 +141,8 @@ two_small zero h = refl
 two_small (suc zero) h = refl
 two_small (suc (suc k)) h = absurd (omega arith)
 
-first_piece : (bytes : List ℕ) → Whole bytes → two_bytes 1 ++ two_bytes (saved_flag (saved_in bytes)) ≡ take 4 (drop 0 bytes)
+first_piece : (bytes : List ℕ) → Whole bytes → two_bytes 1 ++ two_bytes (saved_flag (saved_in bytes))
+    ≡ take 4 (drop 0 bytes)
 first_piece bytes whole =
     let a = eqb-true (byte_at bytes 0) 1 (head_byte bytes 0 whole (omega arith)) in
     let b = eqb-true (byte_at bytes 1) 0 (head_byte bytes 1 whole (omega arith)) in
@@ -150,7 +157,8 @@ head_piece : (bytes : List ℕ) → Whole bytes
     ≡ take 4 (drop 0 bytes) ++ take 4 (drop 4 bytes) ++ take 4 (drop 8 bytes) ++ take 4 (drop 12 bytes)
 unfolding head_of
 head_piece bytes whole =
-    ap (λ x. x ++ four_bytes (word_at bytes 4) ++ four_bytes (saved_mask (saved_in bytes)) ++ four_bytes (word_at bytes 12))
+    ap (λ x. x ++ four_bytes (word_at bytes 4) ++ four_bytes (saved_mask (saved_in bytes)) ++ four_bytes
+    (word_at bytes 12))
     (first_piece bytes whole)
     ∙ ap (λ x. take 4 (drop 0 bytes) ++ x ++ four_bytes (saved_mask (saved_in bytes)) ++ four_bytes (word_at bytes 12))
     (four_back bytes 4 whole (omega arith))
@@ -172,18 +180,21 @@ zero_past bytes k whole l h =
     let past : byte_at bytes 156 ≤ k / 4 - 40 = omega arith in
     let there = sym (fits_in_children bytes k (byte_at bytes k) (omega arith)) ∙ whole.fit k h in
     eqb-true (byte_at bytes k) 0
-    (sym (ap (λ t. (if t then fits_child (byte_at bytes (k - 1)) (k % 4) (byte_at bytes k) else nat_eq (byte_at bytes k) 0))
+    (sym (ap (λ t. (if t then fits_child (byte_at bytes (k - 1)) (k % 4) (byte_at bytes k) else nat_eq
+    (byte_at bytes k) 0))
     (le-ltb (k / 4 - 40) (byte_at bytes 156) past)) ∙ there)
 
 join : (a p : ℕ) (bytes : List ℕ) → take a (drop p bytes) ++ drop (p + a) bytes ≡ drop p bytes
-join a p bytes = ap (λ rest. take a (drop p bytes) ++ rest) (sym (drop-drop a p bytes)) ∙ take-append-drop a (drop p bytes)
+join a p bytes = ap (λ rest. take a (drop p bytes) ++ rest) (sym (drop-drop a p bytes))
+    ∙ take-append-drop a (drop p bytes)
 
 tail_piece : (bytes : List ℕ) → Whole bytes → tail_of (heap_in bytes) ≡ drop 160 bytes
 unfolding tail_of
 tail_piece bytes whole =
     let count = count_of bytes whole in
     let w : ℕ = word_at bytes 156 in
-    let number : length (heap_in bytes).children ≡ w = length-map-range_with_len (λ i. child_at bytes (160 + 4 * i)) 0 w in
+    let number : length (heap_in bytes).children ≡ w = length-map-range_with_len (λ i. child_at bytes (160 + 4 * i)) 0
+    w in
     let left = zeros_from (4 * (32 - w)) (160 + 4 * w) bytes (omega (arith, count.same, count.few, whole.size))
     (λ k l h. zero_past bytes k whole (omega (arith, count.same)) (omega (arith, count.same, count.few))) in
     let written = write_all 4 child_bytes child_at bytes 160 0 w
@@ -196,8 +207,10 @@ tail_piece bytes whole =
 layout_back : (bytes : List ℕ) → Whole bytes → heap_bytes (heap_in bytes) ≡ bytes
 layout_back bytes whole =
     let w : ℕ = word_at bytes 156 in
-    let number : length (heap_in bytes).children ≡ w = length-map-range_with_len (λ i. child_at bytes (160 + 4 * i)) 0 w in
-    let actions = write_all 4 action_bytes action_at bytes 12 1 31 (λ k l h. (action_back bytes k whole l (omega arith)).0) in
+    let number : length (heap_in bytes).children ≡ w = length-map-range_with_len (λ i. child_at bytes (160 + 4 * i)) 0
+    w in
+    let actions = write_all 4 action_bytes action_at bytes 12 1 31
+    (λ k l h. (action_back bytes k whole l (omega arith)).0) in
     let bases = write_all 2 two_bytes half_at bytes 140 0 8 (λ k l h. (base_back bytes k whole (omega arith)).0) in
     let from_156 : four_bytes (length (heap_in bytes).children) ++ tail_of (heap_in bytes) ≡ drop 156 bytes
     = ap (λ n. four_bytes n ++ tail_of (heap_in bytes)) number
@@ -214,7 +227,8 @@ layout_back bytes whole =
     around_actions (heap_in bytes)
     ∙ ap (λ back. head_of (word_at bytes 4) (word_at bytes 12) (saved_in bytes) ++ back) from_16
     ∙ ap (λ front. front ++ drop 16 bytes) (head_piece bytes whole)
-    ∙ append_assoc (take 4 (drop 0 bytes) ++ take 4 (drop 4 bytes) ++ take 4 (drop 8 bytes)) (take 4 (drop 12 bytes)) (drop 16 bytes)
+    ∙ append_assoc (take 4 (drop 0 bytes) ++ take 4 (drop 4 bytes) ++ take 4 (drop 8 bytes)) (take 4 (drop 12 bytes))
+    (drop 16 bytes)
     ∙ ap (λ back. (take 4 (drop 0 bytes) ++ take 4 (drop 4 bytes) ++ take 4 (drop 8 bytes)) ++ back) (join 4 12 bytes)
     ∙ append_assoc (take 4 (drop 0 bytes) ++ take 4 (drop 4 bytes)) (take 4 (drop 8 bytes)) (drop 12 bytes)
     ∙ ap (λ back. (take 4 (drop 0 bytes) ++ take 4 (drop 4 bytes)) ++ back) (join 4 8 bytes)

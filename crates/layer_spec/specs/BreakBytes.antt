@@ -107,7 +107,8 @@ four_there xs p h =
     ∙ ap (λ n. byte_at xs (p + 1) ∷ drop n xs) two)
     ∙ ap (λ rest. byte_at xs p ∷ byte_at xs (p + 1) ∷ take 2 rest) (drop_next xs (p + 2) (omega arith)
     ∙ ap (λ n. byte_at xs (p + 2) ∷ drop n xs) three)
-    ∙ ap (λ rest. byte_at xs p ∷ byte_at xs (p + 1) ∷ byte_at xs (p + 2) ∷ take 1 rest) (drop_next xs (p + 3) (omega arith))
+    ∙ ap (λ rest. byte_at xs p ∷ byte_at xs (p + 1) ∷ byte_at xs (p + 2) ∷ take 1 rest)
+    (drop_next xs (p + 3) (omega arith))
 
 -- two and four bytes are those of the number that they are read as
 pub two_of : (n a b : ℕ) → a < 256 → b < 256 → n ≡ from_le_bytes w16 (a ∷ b ∷ []) → two_bytes n ≡ a ∷ b ∷ []
@@ -134,6 +135,7 @@ unfolding half_at
 half_there xs p h = ap (from_le_bytes w16) (two_there xs p h) ∙ omega arith
 
 pub word_there : (xs : List ℕ) (p : ℕ) → p + 4 ≤ length xs
-    → word_at xs p ≡ byte_at xs p + 256 * byte_at xs (p + 1) + 65536 * byte_at xs (p + 2) + 16777216 * byte_at xs (p + 3)
+    → word_at xs p ≡ byte_at xs p + 256 * byte_at xs (p + 1) + 65536 * byte_at xs (p + 2) + 16777216 * byte_at xs
+    (p + 3)
 unfolding word_at
 word_there xs p h = ap (from_le_bytes w32) (four_there xs p h) ∙ omega arith

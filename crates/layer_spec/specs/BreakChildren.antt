@@ -19,7 +19,8 @@ use Rattle.layer_spec.specs.BreakLists.{actions_fit, bases_fit, child_fits}
 Fits : List ℕ → ℕ → Type 0
 Fits bytes i = fits_at bytes i (byte_at bytes i) ≡ true
 
-child_fits_at : (k n : ℕ) (c : HeapChild) (before rest : List ℕ) (i : ℕ) → is_child c ≡ true → length before ≡ 160 + 4 * k
+child_fits_at : (k n : ℕ) (c : HeapChild) (before rest : List ℕ) (i : ℕ) → is_child c ≡ true → length before
+    ≡ 160 + 4 * k
     → byte_at (before ++ (child_bytes c ++ rest)) 156 ≡ n → k < n → 160 + 4 * k ≤ i → i < 164 + 4 * k
     → Fits (before ++ (child_bytes c ++ rest)) i
 unfolding Fits
@@ -35,7 +36,8 @@ child_fits_at k n c before rest i ok size count within low high =
     = λ e. let start : i - 1 ≡ length before = omega arith in
     ap (byte_at bytes) start ∙ byte_at-seam before (child_bytes c ++ rest) in
     fits_in_children bytes i (byte_at bytes i) (omega arith)
-    ∙ rw (number, count, lt-ltb k n within, place, here) (child_fits c rest j (byte_at bytes (i - 1)) (omega arith) ok first)
+    ∙ rw (number, count, lt-ltb k n within, place, here)
+    (child_fits c rest j (byte_at bytes (i - 1)) (omega arith) ok first)
 
 children_fit : (k n : ℕ) (children : List HeapChild) (before after : List ℕ) (i : ℕ) → list_all is_child children ≡ true
     → length before ≡ 160 + 4 * k → byte_at (before ++ (flat_map child_bytes children ++ after)) 156 ≡ n
@@ -75,7 +77,8 @@ zeros_fit n m before i size count low =
 
 -- the number of children
 count_byte : (n : ℕ) (after : List ℕ) (j : ℕ) → j < 4 → n ≤ 32
-    → (if nat_eq j 0 then nat_le (byte_at (four_bytes n ++ after) j) 32 else nat_eq (byte_at (four_bytes n ++ after) j) 0) ≡ true
+    → (if nat_eq j 0 then nat_le (byte_at (four_bytes n ++ after) j) 32 else nat_eq
+    (byte_at (four_bytes n ++ after) j) 0) ≡ true
 count_byte n after zero h few = let small : n % 256 ≤ 32 = omega arith in le-leb (n % 256) 32 small
 count_byte n after (suc zero) h few = let none : n / 256 % 256 ≡ 0 = omega arith in eq-eqb (n / 256 % 256) 0 none
 count_byte n after (suc (suc zero)) h few =
@@ -124,7 +127,8 @@ lists_fit h legal sizes i from to = elim (cases_lt i 140) [
         (omega (arith, length-before_bases h sizes)) (omega (arith, legal.base_count)) (omega arith)
         (omega (arith, legal.base_count)))
     | inr from_156 ↦ subst (λ (bytes : List ℕ). Fits bytes i) (sym (around_count h))
-        (count_fits (length h.children) (before_count h) (tail_of h) i sizes.few (length-before_count h sizes) from_156 to)
+        (count_fits (length h.children) (before_count h) (tail_of h) i sizes.few (length-before_count h sizes)
+        from_156 to)
   ]
 ]
 

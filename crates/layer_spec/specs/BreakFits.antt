@@ -58,7 +58,8 @@ low_is_byte bytes i l first listed fits =
     let from_160 : 160 ≤ i - 1 = omega arith in
     let same_child : (i - 1) / 4 - 40 ≡ i / 4 - 40 = omega arith in
     let place : (i - 1) % 4 ≡ 0 = omega arith in
-    let there : (if nat_lt ((i - 1) / 4 - 40) (byte_at bytes 156) then fits_child (byte_at bytes (i - 1 - 1)) ((i - 1) % 4) low
+    let there : (if nat_lt ((i - 1) / 4 - 40) (byte_at bytes 156) then fits_child (byte_at bytes (i - 1 - 1))
+    ((i - 1) % 4) low
     else nat_eq low 0) ≡ true = sym (fits_in_children bytes (i - 1) low from_160) ∙ fits in
     ltb-true low 256 (sym (rw (same_child, listed, place) refl) ∙ there)
 

@@ -15,8 +15,10 @@ use Rattle.layer_spec.specs.BreakBytes.{four_there, four_of, word_there, mask_fr
 use Rattle.layer_spec.specs.BreakWhole.{Whole, small_at}
 
 -- what was read one after another is written so
-pub write_all : {X : Type 0} (size : ℕ) (encode : X → List ℕ) (read : List ℕ → ℕ → X) (bytes : List ℕ) (base start n : ℕ)
-    → ((k : ℕ) → start ≤ k → k < start + n → encode (read bytes (base + size * k)) ≡ take size (drop (base + size * k) bytes))
+pub write_all : {X : Type 0} (size : ℕ) (encode : X → List ℕ) (read : List ℕ → ℕ → X) (bytes : List ℕ)
+    (base start n : ℕ)
+    → ((k : ℕ) → start ≤ k → k < start + n → encode (read bytes (base + size * k))
+    ≡ take size (drop (base + size * k) bytes))
     → flat_map encode (map (λ k. read bytes (base + size * k)) (range_with_len start n))
     ≡ take (size * n) (drop (base + size * start) bytes)
 write_all size encode read bytes base start zero each =
@@ -34,7 +36,8 @@ write_all size encode read bytes base start (suc n) each =
     ∙ sym (ap (λ m. take m rest) sum ∙ take-add size (size * n) rest)
 
 -- tests of all that was read
-pub all_read : {X : Type 0} (test : X → Bool) (read : ℕ → X) (start n : ℕ) → ((k : ℕ) → start ≤ k → k < start + n → test (read k) ≡ true)
+pub all_read : {X : Type 0} (test : X → Bool) (read : ℕ → X) (start n : ℕ)
+    → ((k : ℕ) → start ≤ k → k < start + n → test (read k) ≡ true)
     → list_all test (map read (range_with_len start n)) ≡ true
 all_read test read start zero each = refl
 all_read test read start (suc n) each =
@@ -42,7 +45,8 @@ all_read test read start (suc n) each =
     (each start (omega arith) (omega arith))
     (all_read test read (start + 1) n (λ k l h. each k (omega arith) (omega arith)))
 
-pub actions_read_legal : (read : ℕ → Action) (start n : ℕ) → ((k : ℕ) → start ≤ k → k < start + n → is_action k (read k) ≡ true)
+pub actions_read_legal : (read : ℕ → Action) (start n : ℕ)
+    → ((k : ℕ) → start ≤ k → k < start + n → is_action k (read k) ≡ true)
     → are_actions start (map read (range_with_len start n)) ≡ true
 actions_read_legal read start zero each = refl
 actions_read_legal read start (suc n) each =
@@ -51,7 +55,8 @@ actions_read_legal read start (suc n) each =
     (actions_read_legal read (start + 1) n (λ k l h. each k (omega arith) (omega arith)))
 
 -- four bytes
-pub four_back : (bytes : List ℕ) (p : ℕ) → Whole bytes → p + 4 ≤ 288 → four_bytes (word_at bytes p) ≡ take 4 (drop p bytes)
+pub four_back : (bytes : List ℕ) (p : ℕ) → Whole bytes → p + 4 ≤ 288 → four_bytes (word_at bytes p)
+    ≡ take 4 (drop p bytes)
 unfolding word_at
 four_back bytes p whole h =
     four_of (word_at bytes p) (byte_at bytes p) (byte_at bytes (p + 1)) (byte_at bytes (p + 2)) (byte_at bytes (p + 3))
@@ -80,5 +85,6 @@ mask_at bytes p whole h tests =
     let even = second_of (byte_at bytes (p + 1)) (tests 1 (omega arith)) in
     let clear = third_of (byte_at bytes (p + 2)) (tests 2 (omega arith)) in
     let half = fourth_of (byte_at bytes (p + 3)) (tests 3 (omega arith)) in
-    mask_from_bits (word_at bytes p) (omega (arith, value, low, one, two, half)) (omega (arith, value, low, one, two, even))
+    mask_from_bits (word_at bytes p) (omega (arith, value, low, one, two, half))
+    (omega (arith, value, low, one, two, even))
     (omega (arith, value, low, one, two, clear))

@@ -149,7 +149,8 @@ least_found bytes size place within below no_more (Some p) found = elim (cases_o
 pub break_none : (bytes : List ℕ) → (first_break bytes ≡ None) ↔ IsHeapBytes bytes
 break_none bytes = elim (cases_eq (length bytes) 288) [
   | inl size ↦ let test = eq-eqb (length bytes) 288 size in (
-    (λ e. (kept_where_none bytes size).0 (sym (ap (λ t. (if t then first_misfit bytes 0 bytes else Some 288)) test) ∙ e)),
+    (λ e. (kept_where_none bytes size).0 (sym (ap (λ t. (if t then first_misfit bytes 0 bytes else Some 288)) test)
+        ∙ e)),
     (λ kept. ap (λ t. (if t then first_misfit bytes 0 bytes else Some 288)) test ∙ (kept_where_none bytes size).1 kept),
   )
   | inr other ↦ let test = ne_eqb (length bytes) 288 other in (
@@ -173,7 +174,8 @@ of_break bytes place e = elim (cases_eq (length bytes) 288) [
   | inl size ↦ breaks_where_found bytes place size
       (sym (ap (λ t. (if t then first_misfit bytes 0 bytes else Some 288)) (eq-eqb (length bytes) 288 size)) ∙ e)
   | inr other ↦
-      let some = sym (ap (λ t. (if t then first_misfit bytes 0 bytes else Some 288)) (ne_eqb (length bytes) 288 other)) ∙ e in
+      let some = sym (ap (λ t. (if t then first_misfit bytes 0 bytes else Some 288))
+      (ne_eqb (length bytes) 288 other)) ∙ e in
       let same : 288 ≡ place = cc in
       subst (BreaksAt bytes) same (WrongLength other)
 ]

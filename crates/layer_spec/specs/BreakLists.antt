@@ -18,7 +18,8 @@ use Rattle.layer_spec.specs.BreakFits.{zero_in_action}
 ignored_fits : (s : ℕ) → is_action s Ignore ≡ true → fits_action s 1 0 1 ≡ true
 ignored_fits s h = grind (arith, nat_tests)
 
-handled_fits : (s target : ℕ) (restart : Bool) → is_action s (Handler target restart) ≡ true → fits_action s 2 0 2 ≡ true
+handled_fits : (s target : ℕ) (restart : Bool) → is_action s (Handler target restart) ≡ true → fits_action s 2 0 2
+    ≡ true
 handled_fits s target restart h = grind (arith, nat_tests)
 
 bit_fits : (s : ℕ) (b : Bool) → fits_action s 2 1 (bit_of b) ≡ true
@@ -91,7 +92,8 @@ actions_fit s (a ∷ actions) before after i ok size from to low high =
 
 -- byte j of a base
 base_fits : (n : ℕ) (rest : List ℕ) (j : ℕ) → j < 2 → is_base n ≡ true
-    → (if nat_eq j 0 then is_byte (byte_at (two_bytes n ++ rest) j) else nat_le (byte_at (two_bytes n ++ rest) j) 3) ≡ true
+    → (if nat_eq j 0 then is_byte (byte_at (two_bytes n ++ rest) j) else nat_le (byte_at (two_bytes n ++ rest) j) 3)
+    ≡ true
 base_fits n rest zero h ok = byte_fits n
 base_fits n rest (suc zero) h ok =
     let small : n ≤ 1023 = leb-true n 1023 ok in
@@ -130,7 +132,8 @@ bases_fit m (n ∷ bases) before after i ok size to low high =
           = omega (arith, length-append before (two_bytes n), size) in
           subst (λ (bytes : List ℕ). fits_at bytes i (byte_at bytes i) ≡ true)
           (sym (nested ∙ sym (append_assoc before (two_bytes n) (others ++ after))))
-          (bases_fit (m + 1) bases (before ++ two_bytes n) after i both.1 further (omega arith) (omega arith) (omega arith))
+          (bases_fit (m + 1) bases (before ++ two_bytes n) after i both.1 further (omega arith) (omega arith)
+          (omega arith))
     ]
 
 -- byte j of a child, whose first byte is `low`
@@ -150,7 +153,8 @@ child_number_fits n low from to e =
     let same : low + 256 * (n / 256 % 256) ≡ n = omega arith in
     rw same (and_from (nat_le 2 n) (nat_le n 4001) from to)
 
-pub child_fits : (c : HeapChild) (rest : List ℕ) (j low : ℕ) → j < 4 → is_child c ≡ true → (j ≡ 1 → low ≡ c.number % 256)
+pub child_fits : (c : HeapChild) (rest : List ℕ) (j low : ℕ) → j < 4 → is_child c ≡ true
+    → (j ≡ 1 → low ≡ c.number % 256)
     → fits_child low j (byte_at (child_bytes c ++ rest) j) ≡ true
 child_fits c rest zero low h ok first = byte_fits c.number
 child_fits c rest (suc zero) low h ok first =

@@ -52,7 +52,8 @@ owed_3 : (n : ℕ) → n ≤ 65535 → nat_eq (n / 16777216 % 256) 0 ≡ true
 owed_3 n h = let none : n / 16777216 % 256 ≡ 0 = omega arith in eq-eqb (n / 16777216 % 256) 0 none
 
 -- the bytes before the actions
-abbrev fields_of : (mask owed : ℕ) (saved : Option ℕ) (actions : List Action) (bases : List ℕ) (children : List HeapChild) → HeapFields
+abbrev fields_of : (mask owed : ℕ) (saved : Option ℕ) (actions : List Action) (bases : List ℕ)
+    (children : List HeapChild) → HeapFields
 fields_of mask owed saved actions bases children =
     record { mask = mask; saved = saved; owed = owed; actions = actions; bases = bases; children = children }
 
@@ -66,36 +67,81 @@ head_at mask owed None actions bases children ok (suc zero) h = refl
 head_at mask owed None actions bases children ok (suc (suc zero)) h = refl
 head_at mask owed None actions bases children ok (suc (suc (suc zero))) h = refl
 head_at mask owed None actions bases children ok (suc (suc (suc (suc zero)))) h = byte_0 mask (mask_bits mask ok.0)
-head_at mask owed None actions bases children ok (suc (suc (suc (suc (suc zero))))) h = byte_1 mask (mask_bits mask ok.0)
-head_at mask owed None actions bases children ok (suc (suc (suc (suc (suc (suc zero)))))) h = byte_2 mask (mask_bits mask ok.0)
-head_at mask owed None actions bases children ok (suc (suc (suc (suc (suc (suc (suc zero))))))) h = byte_3 mask (mask_bits mask ok.0)
+head_at mask owed None actions bases children ok
+    (suc (suc (suc (suc (suc zero))))) h =
+    byte_1 mask (mask_bits mask ok.0)
+head_at mask owed None actions bases children ok
+    (suc (suc (suc (suc (suc (suc zero)))))) h =
+    byte_2 mask (mask_bits mask ok.0)
+head_at mask owed None actions bases children ok
+    (suc (suc (suc (suc (suc (suc (suc zero))))))) h =
+    byte_3 mask (mask_bits mask ok.0)
 head_at mask owed None actions bases children ok (suc (suc (suc (suc (suc (suc (suc (suc zero)))))))) h = refl
 head_at mask owed None actions bases children ok (suc (suc (suc (suc (suc (suc (suc (suc (suc zero))))))))) h = refl
-head_at mask owed None actions bases children ok (suc (suc (suc (suc (suc (suc (suc (suc (suc (suc zero)))))))))) h = refl
-head_at mask owed None actions bases children ok (suc (suc (suc (suc (suc (suc (suc (suc (suc (suc (suc zero))))))))))) h = refl
-head_at mask owed None actions bases children ok (suc (suc (suc (suc (suc (suc (suc (suc (suc (suc (suc (suc zero)))))))))))) h = owed_0 owed ok.2
-head_at mask owed None actions bases children ok (suc (suc (suc (suc (suc (suc (suc (suc (suc (suc (suc (suc (suc zero))))))))))))) h = owed_1 owed ok.2
-head_at mask owed None actions bases children ok (suc (suc (suc (suc (suc (suc (suc (suc (suc (suc (suc (suc (suc (suc zero)))))))))))))) h = owed_2 owed ok.2
-head_at mask owed None actions bases children ok (suc (suc (suc (suc (suc (suc (suc (suc (suc (suc (suc (suc (suc (suc (suc zero))))))))))))))) h = owed_3 owed ok.2
-head_at mask owed None actions bases children ok (suc (suc (suc (suc (suc (suc (suc (suc (suc (suc (suc (suc (suc (suc (suc (suc n)))))))))))))))) h = absurd (omega arith)
+head_at mask owed None actions bases children ok
+    (suc (suc (suc (suc (suc (suc (suc (suc (suc (suc zero)))))))))) h =
+    refl
+head_at mask owed None actions bases children ok
+    (suc (suc (suc (suc (suc (suc (suc (suc (suc (suc (suc zero))))))))))) h =
+    refl
+head_at mask owed None actions bases children ok
+    (suc (suc (suc (suc (suc (suc (suc (suc (suc (suc (suc (suc zero)))))))))))) h =
+    owed_0 owed ok.2
+head_at mask owed None actions bases children ok
+    (suc (suc (suc (suc (suc (suc (suc (suc (suc (suc (suc (suc (suc zero))))))))))))) h =
+    owed_1 owed ok.2
+head_at mask owed None actions bases children ok
+    (suc (suc (suc (suc (suc (suc (suc (suc (suc (suc (suc (suc (suc (suc zero)))))))))))))) h =
+    owed_2 owed ok.2
+head_at mask owed None actions bases children ok
+    (suc (suc (suc (suc (suc (suc (suc (suc (suc (suc (suc (suc (suc (suc (suc zero))))))))))))))) h =
+    owed_3 owed ok.2
+head_at mask owed None actions bases children ok
+    (suc (suc (suc (suc (suc (suc (suc (suc (suc (suc (suc (suc (suc (suc (suc (suc n)))))))))))))))) h =
+    absurd (omega arith)
 head_at mask owed (Some m) actions bases children ok zero h = refl
 head_at mask owed (Some m) actions bases children ok (suc zero) h = refl
 head_at mask owed (Some m) actions bases children ok (suc (suc zero)) h = refl
 head_at mask owed (Some m) actions bases children ok (suc (suc (suc zero))) h = refl
 head_at mask owed (Some m) actions bases children ok (suc (suc (suc (suc zero)))) h = byte_0 mask (mask_bits mask ok.0)
-head_at mask owed (Some m) actions bases children ok (suc (suc (suc (suc (suc zero))))) h = byte_1 mask (mask_bits mask ok.0)
-head_at mask owed (Some m) actions bases children ok (suc (suc (suc (suc (suc (suc zero)))))) h = byte_2 mask (mask_bits mask ok.0)
-head_at mask owed (Some m) actions bases children ok (suc (suc (suc (suc (suc (suc (suc zero))))))) h = byte_3 mask (mask_bits mask ok.0)
-head_at mask owed (Some m) actions bases children ok (suc (suc (suc (suc (suc (suc (suc (suc zero)))))))) h = byte_0 m (mask_bits m ok.1)
-head_at mask owed (Some m) actions bases children ok (suc (suc (suc (suc (suc (suc (suc (suc (suc zero))))))))) h = byte_1 m (mask_bits m ok.1)
-head_at mask owed (Some m) actions bases children ok (suc (suc (suc (suc (suc (suc (suc (suc (suc (suc zero)))))))))) h = byte_2 m (mask_bits m ok.1)
-head_at mask owed (Some m) actions bases children ok (suc (suc (suc (suc (suc (suc (suc (suc (suc (suc (suc zero))))))))))) h = byte_3 m (mask_bits m ok.1)
-head_at mask owed (Some m) actions bases children ok (suc (suc (suc (suc (suc (suc (suc (suc (suc (suc (suc (suc zero)))))))))))) h = owed_0 owed ok.2
-head_at mask owed (Some m) actions bases children ok (suc (suc (suc (suc (suc (suc (suc (suc (suc (suc (suc (suc (suc zero))))))))))))) h = owed_1 owed ok.2
-head_at mask owed (Some m) actions bases children ok (suc (suc (suc (suc (suc (suc (suc (suc (suc (suc (suc (suc (suc (suc zero)))))))))))))) h = owed_2 owed ok.2
-head_at mask owed (Some m) actions bases children ok (suc (suc (suc (suc (suc (suc (suc (suc (suc (suc (suc (suc (suc (suc (suc zero))))))))))))))) h = owed_3 owed ok.2
-head_at mask owed (Some m) actions bases children ok (suc (suc (suc (suc (suc (suc (suc (suc (suc (suc (suc (suc (suc (suc (suc (suc n)))))))))))))))) h = absurd (omega arith)
+head_at mask owed (Some m) actions bases children ok
+    (suc (suc (suc (suc (suc zero))))) h =
+    byte_1 mask (mask_bits mask ok.0)
+head_at mask owed (Some m) actions bases children ok
+    (suc (suc (suc (suc (suc (suc zero)))))) h =
+    byte_2 mask (mask_bits mask ok.0)
+head_at mask owed (Some m) actions bases children ok
+    (suc (suc (suc (suc (suc (suc (suc zero))))))) h =
+    byte_3 mask (mask_bits mask ok.0)
+head_at mask owed (Some m) actions bases children ok
+    (suc (suc (suc (suc (suc (suc (suc (suc zero)))))))) h =
+    byte_0 m (mask_bits m ok.1)
+head_at mask owed (Some m) actions bases children ok
+    (suc (suc (suc (suc (suc (suc (suc (suc (suc zero))))))))) h =
+    byte_1 m (mask_bits m ok.1)
+head_at mask owed (Some m) actions bases children ok
+    (suc (suc (suc (suc (suc (suc (suc (suc (suc (suc zero)))))))))) h =
+    byte_2 m (mask_bits m ok.1)
+head_at mask owed (Some m) actions bases children ok
+    (suc (suc (suc (suc (suc (suc (suc (suc (suc (suc (suc zero))))))))))) h =
+    byte_3 m (mask_bits m ok.1)
+head_at mask owed (Some m) actions bases children ok
+    (suc (suc (suc (suc (suc (suc (suc (suc (suc (suc (suc (suc zero)))))))))))) h =
+    owed_0 owed ok.2
+head_at mask owed (Some m) actions bases children ok
+    (suc (suc (suc (suc (suc (suc (suc (suc (suc (suc (suc (suc (suc zero))))))))))))) h =
+    owed_1 owed ok.2
+head_at mask owed (Some m) actions bases children ok
+    (suc (suc (suc (suc (suc (suc (suc (suc (suc (suc (suc (suc (suc (suc zero)))))))))))))) h =
+    owed_2 owed ok.2
+head_at mask owed (Some m) actions bases children ok
+    (suc (suc (suc (suc (suc (suc (suc (suc (suc (suc (suc (suc (suc (suc (suc zero))))))))))))))) h =
+    owed_3 owed ok.2
+head_at mask owed (Some m) actions bases children ok
+    (suc (suc (suc (suc (suc (suc (suc (suc (suc (suc (suc (suc (suc (suc (suc (suc n)))))))))))))))) h =
+    absurd (omega arith)
 
-pub head_fits : (h : HeapFields) → IsHeap h → (i : ℕ) → i < 16 → fits_at (heap_bytes h) i (byte_at (heap_bytes h) i) ≡ true
+pub head_fits : (h : HeapFields) → IsHeap h → (i : ℕ) → i < 16 → fits_at (heap_bytes h) i (byte_at (heap_bytes h) i)
+    ≡ true
 head_fits h legal = head_at h.mask h.owed h.saved h.actions h.bases h.children
     (legal.mask, legal.saved, leb-true h.owed 65535 legal.owed)

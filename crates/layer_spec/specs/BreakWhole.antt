@@ -21,7 +21,8 @@ pub small_at : (bytes : List ℕ) → Whole bytes → (k : ℕ) → k < 288 → 
 small_at bytes whole k h = fit_small bytes k (byte_at bytes k) (whole.fit k h)
 
 -- the number in two bytes
-pub half_back : (bytes : List ℕ) (p : ℕ) → Whole bytes → p + 2 ≤ 288 → two_bytes (half_at bytes p) ≡ byte_at bytes p ∷ byte_at bytes (p + 1) ∷ []
+pub half_back : (bytes : List ℕ) (p : ℕ) → Whole bytes → p + 2 ≤ 288 → two_bytes (half_at bytes p)
+    ≡ byte_at bytes p ∷ byte_at bytes (p + 1) ∷ []
 unfolding half_at
 half_back bytes p whole h =
     two_of (half_at bytes p) (byte_at bytes p) (byte_at bytes (p + 1)) (small_at bytes whole p (omega arith))
@@ -57,8 +58,10 @@ pub record ActionBack (s kind restart low high half : ℕ) : Type 0 where
   pub bytes : action_bytes (action_by kind restart half) ≡ kind ∷ restart ∷ low ∷ high ∷ []
   pub legal : is_action s (action_by kind restart half) ≡ true
 
-pub action_exact : (s kind restart low high half : ℕ) → fits_action s kind 0 kind ≡ true → fits_action s kind 1 restart ≡ true
-    → fits_action s kind 2 low ≡ true → fits_action s kind 3 high ≡ true → two_bytes half ≡ low ∷ high ∷ [] → half < 2 ^ 16
+pub action_exact : (s kind restart low high half : ℕ) → fits_action s kind 0 kind ≡ true
+    → fits_action s kind 1 restart ≡ true
+    → fits_action s kind 2 low ≡ true → fits_action s kind 3 high ≡ true → two_bytes half ≡ low ∷ high ∷ []
+    → half < 2 ^ 16
     → ActionBack s kind restart low high half
 action_exact s zero r l h half a b c d e small =
     let rz : r ≡ 0 = eqb-true r 0 b in
@@ -83,7 +86,8 @@ action_test bytes s j whole from to h =
     let number : i / 4 - 3 ≡ s = omega arith in
     let start : i - i % 4 ≡ 12 + 4 * s = omega arith in
     let place : i % 4 ≡ j = omega arith in
-    let there = sym (fits_in_actions bytes i (byte_at bytes i) (omega arith) (omega arith)) ∙ whole.fit i (omega arith) in
+    let there = sym (fits_in_actions bytes i (byte_at bytes i) (omega arith) (omega arith))
+    ∙ whole.fit i (omega arith) in
     sym (ap (λ n. fits_action n (byte_at bytes (i - i % 4)) (i % 4) (byte_at bytes i)) number
     ∙ ap (λ n. fits_action s (byte_at bytes n) (i % 4) (byte_at bytes i)) start
     ∙ ap (λ n. fits_action s (byte_at bytes (12 + 4 * s)) n (byte_at bytes i)) place) ∙ there
@@ -149,8 +153,10 @@ child_back bytes c whole within few =
     let last : p + 2 + 1 ≡ p + 3 = omega arith in
     let second = subst (λ (n : ℕ). fits_child (byte_at bytes n) 1 (byte_at bytes (p + 1)) ≡ true) before
     (child_test bytes c 1 whole within few (omega arith)) in
-    let flag : byte_at bytes (p + 2) ≤ 1 = leb-true (byte_at bytes (p + 2)) 1 (child_test bytes c 2 whole within few (omega arith)) in
-    let end : byte_at bytes (p + 3) ≡ 0 = eqb-true (byte_at bytes (p + 3)) 0 (child_test bytes c 3 whole within few (omega arith)) in
+    let flag : byte_at bytes (p + 2) ≤ 1 = leb-true (byte_at bytes (p + 2)) 1
+    (child_test bytes c 2 whole within few (omega arith)) in
+    let end : byte_at bytes (p + 3) ≡ 0 = eqb-true (byte_at bytes (p + 3)) 0
+    (child_test bytes c 3 whole within few (omega arith)) in
     let value = half_there bytes p (omega (arith, whole.size)) in
     let flags : half_at bytes (p + 2) ≡ byte_at bytes (p + 2)
     = half_there bytes (p + 2) (omega (arith, whole.size)) ∙ rw (last, end) (omega arith) in
