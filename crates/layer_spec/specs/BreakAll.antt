@@ -1,16 +1,20 @@
 -- 288 bytes that fit keep the layout of a cygheap.
-use Rattle.std.specs.Prelude.{◌≡◌, ℕ, zero, suc, ◌+◌, ◌-◌, ◌*◌, ◌/◌, ◌%◌, ◌≤◌, ◌<◌, Bool, true, false, nat_eq, nat_le, if◌then◌else◌, List, [], ◌∷◌, ◌++◌, length, flat_map, take, drop, replicate, Option, Some, None}
+use Rattle.std.specs.Prelude.{◌≡◌, ℕ, zero, suc, ◌+◌, ◌-◌, ◌*◌, ◌/◌, ◌%◌, ◌≤◌, ◌<◌, Bool, true, false, nat_eq, nat_le}
+use Rattle.std.specs.Prelude.{if◌then◌else◌, List, [], ◌∷◌, ◌++◌, length, flat_map, take, drop, replicate, Option, Some}
+use Rattle.std.specs.Prelude.{None}
 use Rattle.std.proofs.Common.{refl, sym, ◌∙◌, ap, arith, append_assoc}
 use Rattle.std.proofs.Math.ListN.{drop_of_length-le}
 use Rattle.std.proofs.lemmas.List.{drop-drop, take-append-drop}
 use Rattle.std.proofs.lemmas.List.FromFn.{length-map-range_with_len}
 use Rattle.std.proofs.lemmas.Bool.{leb-true, le-leb, eqb-true, eqb-false, le-ltb}
-use Rattle.layer_spec.specs.Heap.{IsHeap, IsHeapBytes, is_saved_mask, is_base, is_child, two_bytes, four_bytes, saved_flag, saved_mask, action_bytes, child_bytes, heap_bytes}
+use Rattle.layer_spec.specs.Heap.{IsHeap, IsHeapBytes, is_saved_mask, is_base, is_child, two_bytes, four_bytes}
+use Rattle.layer_spec.specs.Heap.{saved_flag, saved_mask, action_bytes, child_bytes, heap_bytes}
 use Rattle.layer_spec.specs.HeapReads.{byte_at, half_at, action_at, child_at, saved_in, heap_in}
 use Rattle.layer_spec.specs.HeapLaws.{head_of, tail_of, around_actions}
 use Rattle.layer_spec.specs.HeapBreaks.{fits_head, fits_mask, fits_child}
 use Rattle.vm_spec.specs.Image.{word_at}
-use Rattle.layer_spec.specs.BreakParts.{fits_in_head, fits_in_mask, fits_in_saved, fits_past_owed, fits_in_count, fits_in_children}
+use Rattle.layer_spec.specs.BreakParts.{fits_in_head, fits_in_mask, fits_in_saved, fits_past_owed, fits_in_count}
+use Rattle.layer_spec.specs.BreakParts.{fits_in_children}
 use Rattle.layer_spec.specs.BreakFits.{FitBelow}
 use Rattle.layer_spec.specs.BreakBytes.{drop_next, four_there, half_there, word_there}
 use Rattle.layer_spec.specs.BreakWhole.{Whole, small_at, action_back, base_back, child_back}

@@ -1,5 +1,6 @@
 -- What bytes that fit are, one by one.
-use Rattle.std.specs.Prelude.{◌≡◌, ℕ, zero, suc, ◌+◌, ◌-◌, ◌*◌, ◌/◌, ◌%◌, ◌^◌, ◌≤◌, ◌<◌, Bool, true, false, nat_eq, nat_le, nat_lt, if◌then◌else◌, List, [], ◌∷◌, length, take, drop, bit_and}
+use Rattle.std.specs.Prelude.{◌≡◌, ℕ, zero, suc, ◌+◌, ◌-◌, ◌*◌, ◌/◌, ◌%◌, ◌^◌, ◌≤◌, ◌<◌, Bool, true, false, nat_eq}
+use Rattle.std.specs.Prelude.{nat_le, nat_lt, if◌then◌else◌, List, [], ◌∷◌, length, take, drop, bit_and}
 use Rattle.std.specs.Int.{w16, w32, from_le_bytes}
 use Rattle.std.proofs.Common.{inl, inr, refl, sym, ◌∙◌, ap, arith, get_or, drop-cons}
 use Rattle.std.proofs.lemmas.Nat.{le_bytes_2, le_bytes_4, and-not, and_block, and_comm}
@@ -11,7 +12,8 @@ use Rattle.vm_spec.specs.Image.{word_at}
 use Rattle.layer_spec.specs.Heap.{is_mask, two_bytes, four_bytes}
 use Rattle.layer_spec.specs.HeapReads.{byte_at, half_at}
 use Rattle.layer_spec.specs.HeapBreaks.{is_byte, fits_head, fits_mask, fits_action, fits_child, fits_at}
-use Rattle.layer_spec.specs.BreakParts.{fits_in_head, fits_in_mask, fits_in_saved, fits_in_owed, fits_past_owed, fits_in_actions, fits_in_bases, fits_in_count, fits_in_children}
+use Rattle.layer_spec.specs.BreakParts.{fits_in_head, fits_in_mask, fits_in_saved, fits_in_owed, fits_past_owed}
+use Rattle.layer_spec.specs.BreakParts.{fits_in_actions, fits_in_bases, fits_in_count, fits_in_children}
 
 head_small : (i b : ℕ) → fits_head i b ≡ true → b < 256
 head_small i b h = grind (arith, nat_tests)

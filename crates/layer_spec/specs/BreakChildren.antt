@@ -1,12 +1,16 @@
 -- The bytes of a cygheap's children fit, and so do all of a cygheap's.
-use Rattle.std.specs.Prelude.{◌≡◌, ℕ, zero, suc, ◌+◌, ◌-◌, ◌*◌, ◌/◌, ◌%◌, ◌≤◌, ◌<◌, true, nat_eq, nat_le, if◌then◌else◌, List, [], ◌∷◌, ◌++◌, length, flat_map, replicate}
+use Rattle.std.specs.Prelude.{◌≡◌, ℕ, zero, suc, ◌+◌, ◌-◌, ◌*◌, ◌/◌, ◌%◌, ◌≤◌, ◌<◌, true, nat_eq, nat_le, if◌then◌else◌}
+use Rattle.std.specs.Prelude.{List, [], ◌∷◌, ◌++◌, length, flat_map, replicate}
 use Rattle.std.specs.List.{list_all}
 use Rattle.std.proofs.Common.{inl, inr, refl, sym, ◌∙◌, ap, subst, arith, append_assoc, length-append}
 use Rattle.std.proofs.lemmas.Bool.{cases_lt, lt-ltb, le-ltb, le-leb, eq-eqb, and_parts}
 use Rattle.std.proofs.lemmas.Bool.Decides.{nat_tests}
-use Rattle.layer_spec.specs.Heap.{HeapChild, HeapFields, IsHeap, is_child, two_bytes, four_bytes, child_bytes, heap_bytes}
+use Rattle.layer_spec.specs.Heap.{HeapChild, HeapFields, IsHeap, is_child, two_bytes, four_bytes, child_bytes}
+use Rattle.layer_spec.specs.Heap.{heap_bytes}
 use Rattle.layer_spec.specs.HeapReads.{byte_at}
-use Rattle.layer_spec.specs.HeapLaws.{HeapSizes, heap_sizes, head_of, tail_of, around_actions, before_bases, around_bases, before_count, around_count, before_children, around_children, length-before_bases, length-before_count, length-before_children}
+use Rattle.layer_spec.specs.HeapLaws.{HeapSizes, heap_sizes, head_of, tail_of, around_actions, before_bases}
+use Rattle.layer_spec.specs.HeapLaws.{around_bases, before_count, around_count, before_children, around_children}
+use Rattle.layer_spec.specs.HeapLaws.{length-before_bases, length-before_count, length-before_children}
 use Rattle.layer_spec.specs.HeapBreaks.{fits_at}
 use Rattle.layer_spec.specs.ReadLaws.{byte_at-behind, byte_at-seam}
 use Rattle.layer_spec.specs.OpeningLaws.{zero_at}

@@ -1,5 +1,6 @@
 -- Bytes that fit up to a place can be continued to a whole cygheap's.
-use Rattle.std.specs.Prelude.{◌≡◌, ℕ, zero, suc, ◌+◌, ◌-◌, ◌/◌, ◌%◌, ◌≤◌, ◌<◌, Bool, true, false, nat_eq, nat_le, nat_lt, if◌then◌else◌, List, [], ◌∷◌, ◌++◌, length, take, drop}
+use Rattle.std.specs.Prelude.{◌≡◌, ℕ, zero, suc, ◌+◌, ◌-◌, ◌/◌, ◌%◌, ◌≤◌, ◌<◌, Bool, true, false, nat_eq, nat_le}
+use Rattle.std.specs.Prelude.{nat_lt, if◌then◌else◌, List, [], ◌∷◌, ◌++◌, length, take, drop}
 use Rattle.std.proofs.Common.{inl, inr, refl, sym, ◌∙◌, ap, subst, arith, append_assoc, length-append}
 use Rattle.std.proofs.lemmas.Bool.{cases_lt, cases_eq, ne_eqb, ltb-true, cases_Bool}
 use Rattle.std.proofs.lemmas.Bool.Decides.{nat_tests}
@@ -7,7 +8,8 @@ use Rattle.std.proofs.lemmas.List.{get_or_append_left, take-append-drop}
 use Rattle.std.proofs.Math.Seq.{take-length, take-append_seam, get_or-append_seam}
 use Rattle.layer_spec.specs.HeapReads.{byte_at}
 use Rattle.layer_spec.specs.HeapBreaks.{is_byte, fits_mask, fits_action, fits_child, fits_at}
-use Rattle.layer_spec.specs.BreakParts.{fits_in_head, fits_in_mask, fits_in_saved, fits_in_owed, fits_past_owed, fits_in_actions, fits_in_bases, fits_in_count, fits_in_children, fits_alike}
+use Rattle.layer_spec.specs.BreakParts.{fits_in_head, fits_in_mask, fits_in_saved, fits_in_owed, fits_past_owed}
+use Rattle.layer_spec.specs.BreakParts.{fits_in_actions, fits_in_bases, fits_in_count, fits_in_children, fits_alike}
 
 -- the first n bytes fit
 abbrev pub FitBelow : List ℕ → ℕ → Type 0

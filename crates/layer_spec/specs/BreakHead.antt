@@ -1,5 +1,6 @@
 -- The first bytes of 288 that fit, and lists of pieces.
-use Rattle.std.specs.Prelude.{◌≡◌, ℕ, zero, suc, ◌+◌, ◌*◌, ◌/◌, ◌%◌, ◌≤◌, ◌<◌, Bool, true, nat_eq, List, ◌++◌, map, flat_map, take, drop}
+use Rattle.std.specs.Prelude.{◌≡◌, ℕ, zero, suc, ◌+◌, ◌*◌, ◌/◌, ◌%◌, ◌≤◌, ◌<◌, Bool, true, nat_eq, List, ◌++◌, map}
+use Rattle.std.specs.Prelude.{flat_map, take, drop}
 use Rattle.std.specs.Int.{w32, from_le_bytes}
 use Rattle.std.specs.List.{range_with_len, list_all}
 use Rattle.std.proofs.Common.{refl, sym, ◌∙◌, ap, arith}

@@ -1,13 +1,15 @@
 -- The test of each byte lets through exactly the bytes that keep a cygheap's layout, and finds the place at which all
 -- others break it.
-use Rattle.std.specs.Prelude.{◌≡◌, ◌↔◌, ℕ, suc, ◌+◌, ◌-◌, ◌≤◌, ◌<◌, Bool, true, false, if◌then◌else◌, List, [], ◌∷◌, length, take, Option, Some, None}
+use Rattle.std.specs.Prelude.{◌≡◌, ◌↔◌, ℕ, suc, ◌+◌, ◌-◌, ◌≤◌, ◌<◌, Bool, true, false, if◌then◌else◌, List, [], ◌∷◌}
+use Rattle.std.specs.Prelude.{length, take, Option, Some, None}
 use Rattle.std.proofs.Common.{inl, inr, refl, sym, ◌∙◌, ap, subst, arith, get_or}
 use Rattle.std.proofs.lemmas.Bool.{cases_eq, cases_order, true≢false, eq-eqb, ne_eqb}
 use Rattle.std.proofs.lemmas.List.{length-take-le, get_or-take}
 use Rattle.layer_spec.specs.Heap.{heap_bytes, IsHeapBytes}
 use Rattle.layer_spec.specs.HeapReads.{byte_at}
 use Rattle.layer_spec.specs.HeapLaws.{length-heap_bytes}
-use Rattle.layer_spec.specs.HeapBreaks.{BeginsHeap, BreaksAt, WrongLength, LeastPlace, fits_at, first_misfit, first_break}
+use Rattle.layer_spec.specs.HeapBreaks.{BeginsHeap, BreaksAt, WrongLength, LeastPlace, fits_at, first_misfit}
+use Rattle.layer_spec.specs.HeapBreaks.{first_break}
 use Rattle.layer_spec.specs.BreakParts.{fits_alike}
 use Rattle.layer_spec.specs.BreakFits.{FitBelow, complete}
 use Rattle.layer_spec.specs.BreakChildren.{heap_fits}

@@ -1,5 +1,6 @@
 -- The bytes of a cygheap's actions, bases and children fit.
-use Rattle.std.specs.Prelude.{◌≡◌, ℕ, zero, suc, ◌+◌, ◌-◌, ◌*◌, ◌/◌, ◌%◌, ◌≤◌, ◌<◌, Bool, true, false, ◌&&◌, nat_eq, nat_le, if◌then◌else◌, List, [], ◌∷◌, ◌++◌, length, flat_map}
+use Rattle.std.specs.Prelude.{◌≡◌, ℕ, zero, suc, ◌+◌, ◌-◌, ◌*◌, ◌/◌, ◌%◌, ◌≤◌, ◌<◌, Bool, true, false, ◌&&◌, nat_eq}
+use Rattle.std.specs.Prelude.{nat_le, if◌then◌else◌, List, [], ◌∷◌, ◌++◌, length, flat_map}
 use Rattle.std.specs.List.{list_all}
 use Rattle.std.proofs.Common.{inl, inr, refl, sym, ◌∙◌, ap, subst, arith, append_assoc, length-append}
 use Rattle.std.proofs.lemmas.Bool.{cases_lt, lt-ltb, le-leb, leb-true, and_parts, and_from}
@@ -7,7 +8,8 @@ use Rattle.std.proofs.lemmas.Bool.Decides.{nat_tests}
 use Rattle.w32_base.specs.declared.instr.Action.{Action}
 use Rattle.w32_base.specs.declared.instr.Action.TheVariants.{Default, Ignore, Handler}
 use Rattle.layer_spec.specs.Rows.{bit_of}
-use Rattle.layer_spec.specs.Heap.{HeapChild, is_action, are_actions, is_base, is_child, two_bytes, action_bytes, child_bytes}
+use Rattle.layer_spec.specs.Heap.{HeapChild, is_action, are_actions, is_base, is_child, two_bytes, action_bytes}
+use Rattle.layer_spec.specs.Heap.{child_bytes}
 use Rattle.layer_spec.specs.HeapReads.{byte_at}
 use Rattle.layer_spec.specs.HeapLaws.{action_size}
 use Rattle.layer_spec.specs.HeapBreaks.{is_byte, fits_action, fits_child, fits_at}

@@ -1,5 +1,6 @@
 -- What single steps of the POSIX machine do and need: fork, exec, and refusals.
-use Rattle.std.specs.Prelude.{◌≡◌, ◌≢◌, ℕ, ◌+◌, pos, Bool, true, false, cond, ◌&&◌, not, IsTrue, nat_eq, nat_le, nat_lt, if◌then◌else◌, List, [], length, Option, Some, None, is_some}
+use Rattle.std.specs.Prelude.{◌≡◌, ◌≢◌, ℕ, ◌+◌, pos, Bool, true, false, cond, ◌&&◌, not, IsTrue, nat_eq, nat_le, nat_lt}
+use Rattle.std.specs.Prelude.{if◌then◌else◌, List, [], length, Option, Some, None, is_some}
 use Rattle.std.specs.Option.{unwrap_or}
 use Rattle.std.specs.FinSet as set
 use Rattle.std.proofs.Common.{refl, sym, ap, subst, ◌∙◌}
@@ -19,13 +20,16 @@ use Rattle.std.proofs.lemmas.List.{nil_from_length}
 use Rattle.posix_spec.specs.Numbers.{for_value, error_result, is_same_number, answer_result, is_same_answer}
 use Rattle.posix_spec.specs.State.{GroupCall, Record, PosixState, record_of}
 use Rattle.posix_spec.specs.Records.{settled, with_record, change_record, children}
-use Rattle.posix_spec.specs.Conditions.{next_of, call_of, may_act, own_call, group_step_call, with_results, answered, for_call, for_group_step}
-use Rattle.posix_spec.specs.ForkSteps.{is_fresh, child_of, with_used, fork_step, most_children, fork_fail_step, NumberedProgram, program_named, replaced, exec_to, exec_step}
+use Rattle.posix_spec.specs.Conditions.{next_of, call_of, may_act, own_call, group_step_call, with_results, answered}
+use Rattle.posix_spec.specs.Conditions.{for_call, for_group_step}
+use Rattle.posix_spec.specs.ForkSteps.{is_fresh, child_of, with_used, fork_step, most_children, fork_fail_step}
+use Rattle.posix_spec.specs.ForkSteps.{NumberedProgram, program_named, replaced, exec_to, exec_step}
 use Rattle.posix_spec.specs.GroupCalls.{killing_signal, kill_call, ends_with, is_complete, group_answer}
 use Rattle.posix_spec.specs.ConsoleSteps.{with_console, console_done_by, console_done_step}
 use Rattle.vm_spec.specs.Step.{CallInstruction}
 use Rattle.posix_spec.specs.Groups.{has_member}
-use Rattle.posix_spec.specs.KillSteps.{killed, One, Group, target_of, kill_answer, is_answer, kill_step, group_done_by, group_done_step}
+use Rattle.posix_spec.specs.KillSteps.{killed, One, Group, target_of, kill_answer, is_answer, kill_step, group_done_by}
+use Rattle.posix_spec.specs.KillSteps.{group_done_step}
 use Rattle.posix_spec.specs.Waits.{Wait, wait_of, matching}
 use Rattle.posix_spec.specs.WaitSteps.{find_no_child, no_child_step}
 use Rattle.posix_spec.specs.RecordLaws.{record_of-with_record, record_of-change_record}

@@ -1,5 +1,6 @@
 -- What follows for each step of a history, and for its events: clauses that can be read without the machines.
-use Rattle.std.specs.Prelude.{◌≡◌, ℕ, ◌≤◌, ◌⊎◌, ℤ, pos, negsuc, false, nat_eq, if◌then◌else◌, List, [], ◌∷◌, length, flat_map, Some, None}
+use Rattle.std.specs.Prelude.{◌≡◌, ℕ, ◌≤◌, ◌⊎◌, ℤ, pos, negsuc, false, nat_eq, if◌then◌else◌, List, [], ◌∷◌, length}
+use Rattle.std.specs.Prelude.{flat_map, Some, None}
 use Rattle.w32_base.specs.declared.event.Answer.TheVariants.{Error}
 use Rattle.w32_base.specs.declared.event.Errno.TheVariants as errno
 use Rattle.w32_base.specs.declared.event.ForkCause.{ForkCause}

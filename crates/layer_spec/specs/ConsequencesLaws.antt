@@ -100,7 +100,8 @@ module _ {A : Type 0} (posted_of : A → Call) (goes : A → Own → Setup → R
   pub each_fork_copies : (script : Script) (past : List (Seen A)) (now : Moment A)
       → IsHistory posted_of goes opening slot_of thread_of script past now → EachStep ForkCopies past now
   each_fork_copies script [] now h = tt
-  each_fork_copies script (x ∷ past) now h =
-      (fork_copies script (record { past = past; before = x.before; entry = x.entry; after = now }) h.1
-      (history_uses_numbers posted_of goes opening slot_of thread_of script past x.before h.0),
-      each_fork_copies script past x.before h.0)
+  each_fork_copies script (x ∷ past) now h = (
+    fork_copies script (record { past = past; before = x.before; entry = x.entry; after = now }) h.1
+        (history_uses_numbers posted_of goes opening slot_of thread_of script past x.before h.0),
+    each_fork_copies script past x.before h.0,
+  )

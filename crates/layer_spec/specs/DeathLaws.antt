@@ -1,5 +1,6 @@
 -- Each process dies at most once, and is reaped at most once, with the status of its death.
-use Rattle.std.specs.Prelude.{◌≡◌, ◌⊎◌, ℕ, ◌-◌, ◌≤◌, ℤ, pos, negsuc, Bool, true, false, cond, ◌&&◌, ◌||◌, nat_eq, nat_lt, List, [], ◌∷◌, ◌++◌, length, Option, Some, None}
+use Rattle.std.specs.Prelude.{◌≡◌, ◌⊎◌, ℕ, ◌-◌, ◌≤◌, ℤ, pos, negsuc, Bool, true, false, cond, ◌&&◌, ◌||◌, nat_eq}
+use Rattle.std.specs.Prelude.{nat_lt, List, [], ◌∷◌, ◌++◌, length, Option, Some, None}
 use Rattle.std.specs.FinSet as set
 use Rattle.std.proofs.Common.{refl, sym, ap, subst, ◌∙◌, arith, inl, inr}
 use Rattle.std.proofs.lemmas.Bool.{and_parts, false≢true}
@@ -117,7 +118,7 @@ pub fates_of_died : (s : PosixState) (p v : ℕ) (r : Record) (c : ℕ) → reco
 fates_of_died s p v r c is =
     let mid : PosixState = change_record s p (dead v) in
     let all : KeepsFates mid (died s p v r.parent) =
-        fates_then (status_keeps p v mid (nat_eq p 2)) (owed_keeps (with_status p v mid) r.parent) in
+    fates_then (status_keeps p v mid (nat_eq p 2)) (owed_keeps (with_status p v mid) r.parent) in
     all.fates c ∙ (ap (λ t. fate_of t c) (record_of-change_record s p (dead v) r is)
     ∙ (ap fate_in (record_of-with_record s p (dead v r) c)
     ∙ fate_cond (nat_eq c p) (Some (settled (dead v r))) (record_of s c)))
@@ -127,7 +128,7 @@ pub used_of_died : (s : PosixState) (p v : ℕ) (r : Record) → record_of s p �
 used_of_died s p v r is =
     let mid : PosixState = change_record s p (dead v) in
     let all : KeepsFates mid (died s p v r.parent) =
-        fates_then (status_keeps p v mid (nat_eq p 2)) (owed_keeps (with_status p v mid) r.parent) in
+    fates_then (status_keeps p v mid (nat_eq p 2)) (owed_keeps (with_status p v mid) r.parent) in
     all.used ∙ ap (λ t. t.used) (record_of-change_record s p (dead v) r is)
 
 -- The standing of a number after an event that is about one process: `b` says whether the number is that process's.

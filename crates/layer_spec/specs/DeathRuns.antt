@@ -1,6 +1,7 @@
 -- Each process dies at most once, and is reaped at most once, with the status of its death: in every run of the POSIX
 -- machine, and so in every history.
-use Rattle.std.specs.Prelude.{◌≡◌, ◌≢◌, ◌⊎◌, ℕ, ◌≤◌, ℤ, pos, negsuc, Bool, true, false, cond, ◌&&◌, ◌||◌, not, nat_eq, nat_lt, nat_le, ◌+◌, List, [], ◌∷◌, ◌++◌, length, flat_map, slice_get, Option, Some, None}
+use Rattle.std.specs.Prelude.{◌≡◌, ◌≢◌, ◌⊎◌, ℕ, ◌≤◌, ℤ, pos, negsuc, Bool, true, false, cond, ◌&&◌, ◌||◌, not, nat_eq}
+use Rattle.std.specs.Prelude.{nat_lt, nat_le, ◌+◌, List, [], ◌∷◌, ◌++◌, length, flat_map, slice_get, Option, Some, None}
 use Rattle.std.specs.Option.{unwrap_or}
 use Rattle.std.specs.Ordering.{nat_cmp}
 use Rattle.std.specs.Cmp.{nat_cmp_total, unsigned_tied}
@@ -40,7 +41,9 @@ use Rattle.layer_spec.specs.Consequences.{ReapedOnce, death_status, reaped_statu
 use Rattle.posix_spec.specs.RecordLaws.{record_of-with_record, record_of-without_record}
 use Rattle.layer_spec.specs.FateLaws.{fate_in, fate_of, KeepsFates, same_fates, change_keeps, for_value_some, guarded}
 use Rattle.layer_spec.specs.FateEvents.{event_keeps}
-use Rattle.layer_spec.specs.DeathLaws.{is_used, Standing, StandsAt, standing_means, kept, dying_lives, natural_is, fate_cond, fates_of_died, used_of_died, die_case, reap_case, collect_case, fork_case}
+use Rattle.layer_spec.specs.DeathLaws.{is_used, Standing, StandsAt, standing_means, kept, dying_lives, natural_is}
+use Rattle.layer_spec.specs.DeathLaws.{fate_cond, fates_of_died, used_of_died, die_case, reap_case, collect_case}
+use Rattle.layer_spec.specs.DeathLaws.{fork_case}
 
 turned_by : (a b : ℕ) → ((nat_eq a b ≡ true) × (a ≡ b)) ⊎ ((nat_eq a b ≡ false) × (a ≢ b)) → nat_eq a b ≡ nat_eq b a
 turned_by a b (inl t) = t.0 ∙ sym (eq-eqb b a (sym t.1))
@@ -61,16 +64,16 @@ die_stands script s new p c v cause ds rs e h =
     let more : ℤ → List ℤ = λ w. ds ++ cond (nat_eq p c) (w ∷ []) [] in
     let done : end ≡ new = ap (λ o. unwrap_or o new) may.1 in
     let lives : (nat_eq p c ≡ true) → fate_of s c ≡ Some None = λ same.
-        ap (λ q. fate_of s q) (sym (eqb-true p c same))
-        ∙ (ap fate_in r.1 ∙ ap Some (dying_lives script r.0 n.0 cause may.0)) in
+    ap (λ q. fate_of s q) (sym (eqb-true p c same))
+    ∙ (ap fate_in r.1 ∙ ap Some (dying_lives script r.0 n.0 cause may.0)) in
     let fates : fate_of end c ≡ cond (nat_eq p c) (Some (Some n.0)) (fate_of s c) =
-        fates_of_died s p n.0 r.0 c r.1 ∙ ap (λ b. cond b (Some (Some n.0)) (fate_of s c)) (eqb_turned c p) in
+    fates_of_died s p n.0 r.0 c r.1 ∙ ap (λ b. cond b (Some (Some n.0)) (fate_of s c)) (eqb_turned c p) in
     let stands : Standing (fate_of end c) (is_used s c) (more (pos n.0)) (rs ++ []) =
-        die_case (nat_eq p c) (fate_of s c) (fate_of end c) (is_used s c) n.0 ds rs fates lives h in
+    die_case (nat_eq p c) (fate_of s c) (fate_of end c) (is_used s c) n.0 ds rs fates lives h in
     let used : is_used s c ≡ is_used end c =
-        ap (λ u. set.contains u c) (sym (used_of_died s p n.0 r.0 r.1)) in
+    ap (λ u. set.contains u c) (sym (used_of_died s p n.0 r.0 r.1)) in
     let there : StandsAt end c (more (pos n.0)) (rs ++ []) =
-        subst (λ u. Standing (fate_of end c) u (more (pos n.0)) (rs ++ [])) {x = is_used s c} used stands in
+    subst (λ u. Standing (fate_of end c) u (more (pos n.0)) (rs ++ [])) {x = is_used s c} used stands in
     subst (λ t. StandsAt t c (more v) (rs ++ [])) {x = end} done
     (subst (λ w. StandsAt end c (more w) (rs ++ [])) {x = pos n.0} (sym (natural_is v n.0 n.1)) there)
 
@@ -101,7 +104,7 @@ reap_stands : (script : Script) (s new : PosixState) (p c : ℕ) (q v : ℤ) (ds
 unfolding posix_step
 reap_stands script s new p c q v ds rs e h =
     let n = for_value_some (natural_of q)
-        (λ n. for_value (record_of s p) (λ r. for_value (own_call script r) (reap_step s p v n r))) new e in
+    (λ n. for_value (record_of s p) (λ r. for_value (own_call script r) (reap_step s p v n r))) new e in
     let r = for_value_some (record_of s p) (λ r. for_value (own_call script r) (reap_step s p v n.0 r)) new n.2 in
     let i = for_value_some (own_call script r.0) (reap_step s p v n.0 r.0) new r.2 in
     let wait = for_value_some (wait_of p r.0 i.0) (reap_by s p n.0 v) new i.2 in
@@ -110,19 +113,19 @@ reap_stands script s new p c q v ds rs e h =
     let was = guarded (is_reaped wait.0 n.0 v (record_of s n.0)) (Some end) new wait.2 in
     let done : end ≡ new = ap (λ o. unwrap_or o new) was.1 in
     let zombie : (w : ℕ) × (fate_of s n.0 ≡ Some (Some w)) × (v ≡ pos w) =
-        reaped_zombie wait.0 n.0 v (record_of s n.0) was.0 in
+    reaped_zombie wait.0 n.0 v (record_of s n.0) was.0 in
     let keeps : KeepsFates mid end = change_keeps mid p (with_results (pos n.0) (Some v)) (λ r _. refl) in
     let fates : fate_of end c ≡ cond (nat_eq n.0 c) None (fate_of s c) = gone_fates s end n.0 c keeps in
     let more : ℤ → List ℤ = λ w. rs ++ cond (nat_eq n.0 c) (w ∷ []) [] in
     let at : nat_eq n.0 c ≡ true → fate_of s c ≡ Some (Some zombie.0) =
-        λ same. ap (fate_of s) (sym (eqb-true n.0 c same)) ∙ zombie.1 in
+    λ same. ap (fate_of s) (sym (eqb-true n.0 c same)) ∙ zombie.1 in
     let stands : Standing (fate_of end c) (is_used s c) (ds ++ []) (more (pos zombie.0)) =
-        reap_case (nat_eq n.0 c) (fate_of s c) (fate_of end c) (is_used s c) zombie.0 ds rs fates at h in
+    reap_case (nat_eq n.0 c) (fate_of s c) (fate_of end c) (is_used s c) zombie.0 ds rs fates at h in
     let used : is_used s c ≡ is_used end c = ap (λ u. set.contains u c) (sym keeps.used) in
     let there : StandsAt end c (ds ++ []) (more (pos zombie.0)) =
-        subst (λ u. Standing (fate_of end c) u (ds ++ []) (more (pos zombie.0))) {x = is_used s c} used stands in
+    subst (λ u. Standing (fate_of end c) u (ds ++ []) (more (pos zombie.0))) {x = is_used s c} used stands in
     let status : StandsAt end c (ds ++ []) (rs ++ status_of_child (pos n.0) v c) =
-        subst (λ w. StandsAt end c (ds ++ []) (more w)) {x = pos zombie.0} (sym zombie.2) there in
+    subst (λ w. StandsAt end c (ds ++ []) (more w)) {x = pos zombie.0} (sym zombie.2) there in
     subst (λ t. StandsAt t c (ds ++ []) (rs ++ status_of_child q v c)) {x = end} done
     (subst (λ w. StandsAt end c (ds ++ []) (rs ++ status_of_child w v c)) {x = pos n.0}
     (sym (natural_is q n.0 n.1)) status)
@@ -141,11 +144,11 @@ collect_stands script s new p c ds rs e h =
     let was = guarded test (Some (without_record s p)) new r.2 in
     let done : without_record s p ≡ new = ap (λ o. unwrap_or o new) was.1 in
     let zombie = zombie_fate r.0 r.0.life refl
-        (and_parts (is_zombie r.0.life) (not (is_live_at (record_of s r.0.parent))) was.0).0 in
+    (and_parts (is_zombie r.0.life) (not (is_live_at (record_of s r.0.parent))) was.0).0 in
     let fates : fate_of (without_record s p) c ≡ cond (nat_eq p c) None (fate_of s c) =
-        gone_fates s (without_record s p) p c (same_fates (without_record s p)) in
+    gone_fates s (without_record s p) p c (same_fates (without_record s p)) in
     let at : nat_eq p c ≡ true → fate_of s c ≡ Some (Some zombie.0) = λ same.
-        ap (fate_of s) (sym (eqb-true p c same)) ∙ (ap fate_in r.1 ∙ ap Some zombie.1) in
+    ap (fate_of s) (sym (eqb-true p c same)) ∙ (ap fate_in r.1 ∙ ap Some zombie.1) in
     subst (λ t. StandsAt t c (ds ++ []) (rs ++ [])) done
     (collect_case (nat_eq p c) (fate_of s c) (fate_of (without_record s p) c) (is_used s c) zombie.0 ds rs fates at h)
 
@@ -173,7 +176,7 @@ fork_stands : (script : Script) (s new : PosixState) (p c : ℕ) (q : ℤ) (ds r
 unfolding posix_step
 fork_stands script s new p c q ds rs e h =
     let n = for_value_some (natural_of q)
-        (λ n. for_value (record_of s p) (λ r. for_value (own_call script r) (fork_step script s p n r))) new e in
+    (λ n. for_value (record_of s p) (λ r. for_value (own_call script r) (fork_step script s p n r))) new e in
     let r = for_value_some (record_of s p) (λ r. for_value (own_call script r) (fork_step script s p n.0 r)) new n.2 in
     let i = for_value_some (own_call script r.0) (fork_step script s p n.0 r.0) new r.2 in
     let child : Record = child_of p r.0 in
@@ -182,11 +185,11 @@ fork_stands script s new p c q ds rs e h =
     let done = fresh_forked script s p n.0 r.0 i.0 new i.2 in
     let keeps : KeepsFates mid end = change_keeps mid p (with_results (pos n.0) None) (λ r _. refl) in
     let fates : fate_of end c ≡ cond (nat_eq c n.0) (Some None) (fate_of s c) =
-        keeps.fates c ∙ (ap fate_in (record_of-with_record s n.0 child c)
-        ∙ fate_cond (nat_eq c n.0) (Some (settled child)) (record_of s c)) in
+    keeps.fates c ∙ (ap fate_in (record_of-with_record s n.0 child c)
+    ∙ fate_cond (nat_eq c n.0) (Some (settled child)) (record_of s c)) in
     let used : is_used end c ≡ (nat_eq c n.0 || is_used s c) =
-        ap (λ u. set.contains u c) keeps.used ∙ (set.contains-insert nat_cmp_total s.used n.0 c
-        ∙ ap (λ b. b || is_used s c) (unsigned_tied c n.0)) in
+    ap (λ u. set.contains u c) keeps.used ∙ (set.contains-insert nat_cmp_total s.used n.0 c
+    ∙ ap (λ b. b || is_used s c) (unsigned_tied c n.0)) in
     let fresh : nat_eq c n.0 ≡ true → is_used s c ≡ false = λ same. ap (is_used s) (eqb-true c n.0 same) ∙ done.0 in
     subst (λ t. StandsAt t c (ds ++ []) (rs ++ [])) done.1
     (fork_case (nat_eq c n.0) (fate_of s c) (fate_of end c) (is_used s c) (is_used end c) ds rs fates used fresh h)
@@ -211,7 +214,7 @@ run_stands script s [] new c ds rs run h =
     (kept s s c ds rs [] [] (same_fates s) refl refl h)
 run_stands script s (e ∷ es) new c ds rs run h =
     let first : StandsAt run.0 c (ds ++ death_status c e) (rs ++ reaped_status c e) =
-        step_stands script s e run.0 c ds rs run.1 h in
+    step_stands script s e run.0 c ds rs run.1 h in
     let rest = run_stands script run.0 es new c (ds ++ death_status c e) (rs ++ reaped_status c e) run.2 first in
     subst (λ x. StandsAt new c x (rs ++ (reaped_status c e ++ flat_map (reaped_status c) es)))
     (append_assoc ds (death_status c e) (flat_map (death_status c) es))
@@ -248,7 +251,7 @@ opening_stands script c =
 
 number_means : (script : Script) (es : List Event) (new : PosixState) (c : ℕ)
     → PosixRun script (opening_of script) es new → (length (flat_map (death_status c) es) ≤ 1)
-      × ((flat_map (reaped_status c) es ≡ []) ⊎ (flat_map (reaped_status c) es ≡ flat_map (death_status c) es))
+    × ((flat_map (reaped_status c) es ≡ []) ⊎ (flat_map (reaped_status c) es ≡ flat_map (death_status c) es))
 number_means script es new c run =
     standing_means (fate_of new c) (is_used new c) (flat_map (death_status c) es) (flat_map (reaped_status c) es)
     (run_stands script (opening_of script) es new c [] [] run (opening_stands script c))

@@ -1,6 +1,7 @@
 -- When a state of the modelled Win32 shows the processes of the POSIX machine: by the words of the rows, by the memory
 -- of the live processes that the rows name, and by the terminal.
-use Rattle.std.specs.Prelude.{◌≡◌, ℕ, ◌+◌, ◌≤◌, ◌<◌, Bool, true, false, ◌&&◌, not, nat_eq, List, [], ◌∷◌, length, map, slice_index, Option, Some, None, IsSome, MatchOption}
+use Rattle.std.specs.Prelude.{◌≡◌, ℕ, ◌+◌, ◌≤◌, ◌<◌, Bool, true, false, ◌&&◌, not, nat_eq, List, [], ◌∷◌, length, map}
+use Rattle.std.specs.Prelude.{slice_index, Option, Some, None, IsSome, MatchOption}
 use Rattle.w32_base.specs.declared.own.Own.{Own}
 use Rattle.script_spec.specs.declared.script.Script.{Script}
 use Rattle.vm_spec.specs.Image.{image_of}
@@ -10,7 +11,8 @@ use Rattle.win32_spec.specs.Placing.{base_in}
 use Rattle.win32_spec.specs.State.{PlacedModule, Process, Win32State}
 use Rattle.posix_spec.specs.State as posix
 use Rattle.posix_spec.specs.State.{Record, PosixState, record_of}
-use Rattle.layer_spec.specs.Rows.{Free, Held, Running, Stopped, Zombie, Gone, RowKind, is_process_kind, is_live_kind, MainWord, GroupWord}
+use Rattle.layer_spec.specs.Rows.{Free, Held, Running, Stopped, Zombie, Gone, RowKind, is_process_kind, is_live_kind}
+use Rattle.layer_spec.specs.Rows.{MainWord, GroupWord}
 use Rattle.layer_spec.specs.Decoding.{main_of, group_of}
 use Rattle.layer_spec.specs.Words.{main_at, group_at}
 use Rattle.layer_spec.specs.Heap.{HeapChild, HeapFields, IsHeap, heap_bytes}

@@ -1,6 +1,7 @@
 -- What a word tells: the fields that stand in its bits, where these may stand together and make up the whole word.
 use Rattle.std.specs.Prelude.{ℕ, ◌/◌, ◌%◌, ◌^◌, ◌&&◌, nat_eq, if◌then◌else◌, Option, Some, None}
-use Rattle.layer_spec.specs.Rows.{RowKind, Free, Held, Running, Stopped, Zombie, Gone, kind_from, MainWord, GroupWord, ExitWord, main_word_of, group_word_of, exit_word_of, is_main, is_group, is_exit}
+use Rattle.layer_spec.specs.Rows.{RowKind, Free, Held, Running, Stopped, Zombie, Gone, kind_from, MainWord, GroupWord}
+use Rattle.layer_spec.specs.Rows.{ExitWord, main_word_of, group_word_of, exit_word_of, is_main, is_group, is_exit}
 
 -- the field of so many bits from a place on
 abbrev pub field : ℕ → ℕ → ℕ → ℕ

@@ -9,9 +9,11 @@ use Rattle.posix_spec.specs.State.{PosixState}
 use Rattle.posix_spec.specs.Pending.{action_of}
 use Rattle.posix_spec.specs.SignalCalls.{action_step, mask_step, return_step, suspend_step}
 use Rattle.tty_spec.specs.Discipline.{after_key}
-use Rattle.posix_spec.specs.TerminalSteps.{background_by, background_done_by, background_done_step, background_step, flags_step, line_step, tcset_step, write_step}
+use Rattle.posix_spec.specs.TerminalSteps.{background_by, background_done_by, background_done_step, background_step}
+use Rattle.posix_spec.specs.TerminalSteps.{flags_step, line_step, tcset_step, write_step}
 use Rattle.posix_spec.specs.GroupCalls.{background_call, begun}
-use Rattle.posix_spec.specs.WaitSteps.{block_step, blocked, find_no_child, find_nothing, look_by, look_step, no_child_step, nothing_step, report_by, report_step, reported, with_look}
+use Rattle.posix_spec.specs.WaitSteps.{block_step, blocked, find_no_child, find_nothing, look_by, look_step}
+use Rattle.posix_spec.specs.WaitSteps.{no_child_step, nothing_step, report_by, report_step, reported, with_look}
 use Rattle.posix_spec.specs.Conditions.{call_ended, for_call, for_process}
 use Rattle.posix_spec.specs.Records.{change_record}
 use Rattle.posix_spec.specs.Refusals.{check_of, refuse_step}
@@ -28,8 +30,13 @@ use Rattle.posix_spec.specs.ConsoleSteps.{with_key}
 use Rattle.w32_base.specs.declared.event.Errno.TheVariants as errno
 use Rattle.posix_spec.specs.Run.{PosixStep}
 use Rattle.posix_spec.specs.Step.{group_done_of, member_of, posix_step}
-use Rattle.layer_spec.specs.FateLaws.{answered_both_keeps, answered_keeps, call_keeps, change_keeps, generated_keeps, group_step_keeps, guarded, keeps_if, process_keeps, same_fates, KeepsFates}
-use Rattle.layer_spec.specs.FateSteps.{number_keeps, numbers_keep, action_keeps, deliver_keeps, exec_fail_keeps, exec_keeps, flags_keeps, fork_fail_keeps, group_done_keeps, kill_keeps, line_keeps, mask_keeps, member_keeps, return_keeps, setpgid_keeps, setsid_keeps, stop_keeps, suspend_keeps, tcset_keeps, untouched, value_keeps, write_keeps, is_fateless}
+use Rattle.layer_spec.specs.FateLaws.{answered_both_keeps, answered_keeps, call_keeps, change_keeps, generated_keeps}
+use Rattle.layer_spec.specs.FateLaws.{group_step_keeps, guarded, keeps_if, process_keeps, same_fates, KeepsFates}
+use Rattle.layer_spec.specs.FateSteps.{number_keeps, numbers_keep, action_keeps, deliver_keeps, exec_fail_keeps}
+use Rattle.layer_spec.specs.FateSteps.{exec_keeps, flags_keeps, fork_fail_keeps, group_done_keeps, kill_keeps}
+use Rattle.layer_spec.specs.FateSteps.{line_keeps, mask_keeps, member_keeps, return_keeps, setpgid_keeps, setsid_keeps}
+use Rattle.layer_spec.specs.FateSteps.{stop_keeps, suspend_keeps, tcset_keeps, untouched, value_keeps, write_keeps}
+use Rattle.layer_spec.specs.FateSteps.{is_fateless}
 
 pub event_keeps : (script : Script) (s : PosixState) (e : Event) (new : PosixState) → is_fateless e ≡ true
     → PosixStep script s e new → KeepsFates s new

@@ -11,7 +11,8 @@ use Rattle.posix_spec.specs.State.{Life, Running, Stopped, Zombie, Record, Posix
 use Rattle.posix_spec.specs.Pending.{is_live, is_stopped}
 use Rattle.posix_spec.specs.Records.{settled, with_record, changed_at, change_record}
 use Rattle.posix_spec.specs.RecordLaws.{record_of-with_record}
-use Rattle.posix_spec.specs.Conditions.{own_call, group_step_call, for_process, for_call, for_group_step, with_results, answered, answered_both}
+use Rattle.posix_spec.specs.Conditions.{own_call, group_step_call, for_process, for_call, for_group_step, with_results}
+use Rattle.posix_spec.specs.Conditions.{answered, answered_both}
 use Rattle.posix_spec.specs.Signals.{continue_signal}
 use Rattle.posix_spec.specs.Waits.{death_to_report}
 use Rattle.posix_spec.specs.Sending.{owed_more, with_generated, continued, generated, generated_by_life, owed_for, sent}

@@ -22,13 +22,18 @@ use Rattle.posix_spec.specs.State.{Life, Running, Stopped, Zombie, Record, Posix
 use Rattle.posix_spec.specs.Pending.{is_running, with_action, without_signal}
 use Rattle.posix_spec.specs.Records.{change_record}
 use Rattle.posix_spec.specs.Waits.{death_to_report}
-use Rattle.posix_spec.specs.ForkSteps.{NumberedProgram, fork_fail_step, exec_to, exec_step, exec_fail_step, replaced, program_named, exec_result}
-use Rattle.posix_spec.specs.KillSteps.{Target, One, Group, Invalid, killed, kill_step, member_step, group_done_step, target_of, in_call_for, member_by, group_done_by}
-use Rattle.posix_spec.specs.ConsoleSteps.{console_member_step, console_done_step, console_member_by, console_done_by, with_console}
-use Rattle.posix_spec.specs.SignalCalls.{takes_away, acting, mask_step, with_mask, action_step, suspend_step, return_step, suspended, returned}
+use Rattle.posix_spec.specs.ForkSteps.{NumberedProgram, fork_fail_step, exec_to, exec_step, exec_fail_step, replaced}
+use Rattle.posix_spec.specs.ForkSteps.{program_named, exec_result}
+use Rattle.posix_spec.specs.KillSteps.{Target, One, Group, Invalid, killed, kill_step, member_step, group_done_step}
+use Rattle.posix_spec.specs.KillSteps.{target_of, in_call_for, member_by, group_done_by}
+use Rattle.posix_spec.specs.ConsoleSteps.{console_member_step, console_done_step, console_member_by, console_done_by}
+use Rattle.posix_spec.specs.ConsoleSteps.{with_console}
+use Rattle.posix_spec.specs.SignalCalls.{takes_away, acting, mask_step, with_mask, action_step, suspend_step}
+use Rattle.posix_spec.specs.SignalCalls.{return_step, suspended, returned}
 use Rattle.posix_spec.specs.SignalActs.{deliver_by, stopped, stop_step, in_handler, is_interrupted}
 use Rattle.posix_spec.specs.GroupSteps.{in_group, setpgid_step, leading_session, setsid_step}
-use Rattle.posix_spec.specs.TerminalSteps.{with_foreground, with_flags, with_output, with_read, tcset_step, flags_step, line_step, write_step, line_by, read_from}
+use Rattle.posix_spec.specs.TerminalSteps.{with_foreground, with_flags, with_output, with_read, tcset_step, flags_step}
+use Rattle.posix_spec.specs.TerminalSteps.{line_step, write_step, line_by, read_from}
 use Rattle.posix_spec.specs.Sending.{sent}
 use Rattle.posix_spec.specs.Step.{member_of, group_done_of}
 use Rattle.posix_spec.specs.GroupCalls.{killing_signal, member_call, kill_call, with_step}
@@ -37,7 +42,8 @@ use Rattle.vm_spec.specs.Image.{value_of}
 use Rattle.vm_spec.specs.NewImage.{new_image}
 use Rattle.posix_spec.specs.Checks.{count_of}
 use Rattle.std.specs.Option.{unwrap_or}
-use Rattle.layer_spec.specs.FateLaws.{KeepsFates, same_fates, fates_then, change_keeps, owed_keeps, sent_keeps, for_value_some, guarded, keeps_if, group_step_keeps, answered_keeps, fate_in}
+use Rattle.layer_spec.specs.FateLaws.{KeepsFates, same_fates, fates_then, change_keeps, owed_keeps, sent_keeps}
+use Rattle.layer_spec.specs.FateLaws.{for_value_some, guarded, keeps_if, group_step_keeps, answered_keeps, fate_in}
 
 -- a step that needs a value
 pub value_keeps : {A : Type 0} → (s : PosixState) (o : Option A) (step : A → Option PosixState) (new : PosixState)
@@ -138,7 +144,7 @@ mask_keeps s p m r _ new e = absurd (none-some new e)
 
 acting_keeps : (b : Bool) (signal : ℕ) (a : Action) (r : Record)
     → death_to_report (cond b (without_signal (with_action r signal a) signal) (with_action r signal a)).life
-      ≡ death_to_report r.life
+    ≡ death_to_report r.life
 acting_keeps true signal a r = refl
 acting_keeps false signal a r = refl
 
@@ -224,8 +230,8 @@ pub stop_keeps : (s : PosixState) (p signal : ℕ) (r : Record) (new : PosixStat
 stop_keeps s p signal r new is e =
     let runs : is_running r.life ≡ true = (and_parts _ _ (and_parts _ _ (guarded _ _ new e).0).0).0 in
     let change : KeepsFates s (change_record s p (stopped signal)) = change_keeps s p (stopped signal)
-        (λ other there. sym (ap (λ (q : Record). death_to_report q.life) (sym (same_there s p r other is there))
-        ∙ running_lives r.life runs)) in
+    (λ other there. sym (ap (λ (q : Record). death_to_report q.life) (sym (same_there s p r other is there))
+    ∙ running_lives r.life runs)) in
     keeps_if s _ _ new e (fates_then change (owed_keeps (change_record s p (stopped signal)) r.parent))
 
 -- Each of these events leaves all fates as they are.

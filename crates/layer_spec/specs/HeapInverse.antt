@@ -9,7 +9,8 @@ use Rattle.w32_base.specs.declared.instr.Action.{Action}
 use Rattle.w32_base.specs.declared.instr.Action.TheVariants.{Default, Ignore, Handler}
 use Rattle.posix_spec.specs.Signals.{clean_mask}
 use Rattle.vm_spec.specs.Image.{word_at}
-use Rattle.layer_spec.specs.Heap.{HeapChild, HeapFields, is_mask, is_saved_mask, is_action, are_actions, IsHeap, IsHeapBytes, heap_bytes, for_child, for_exec, without_handler}
+use Rattle.layer_spec.specs.Heap.{HeapChild, HeapFields, is_mask, is_saved_mask, is_action, are_actions, IsHeap}
+use Rattle.layer_spec.specs.Heap.{IsHeapBytes, heap_bytes, for_child, for_exec, without_handler}
 use Rattle.layer_spec.specs.HeapReads.{half_at, heap_in, mask_in, saved_in, owed_in}
 use Rattle.layer_spec.specs.HeapLaws.{actions_back, bases_back, children_back}
 

@@ -1,5 +1,6 @@
 -- A cygheap's bytes give its fields back, and the copies for a child and for the next image are cygheaps.
-use Rattle.std.specs.Prelude.{◌≡◌, ℕ, ◌+◌, ◌-◌, ◌*◌, ◌^◌, ◌≤◌, ◌<◌, Bool, true, not, nat_lt, List, [], ◌∷◌, ◌++◌, length, map, flat_map, replicate, Option}
+use Rattle.std.specs.Prelude.{◌≡◌, ℕ, ◌+◌, ◌-◌, ◌*◌, ◌^◌, ◌≤◌, ◌<◌, Bool, true, not, nat_lt, List, [], ◌∷◌, ◌++◌}
+use Rattle.std.specs.Prelude.{length, map, flat_map, replicate, Option}
 use Rattle.std.specs.List.{range_with_len, list_all}
 use Rattle.std.proofs.Common.{refl, sym, ◌∙◌, subst, arith, append_assoc, length-append}
 use Rattle.std.proofs.lemmas.List.{length-replicate}
@@ -12,9 +13,11 @@ use Rattle.posix_spec.specs.Signals.{is_never_masked}
 use Rattle.vm_spec.specs.Image.{word_at}
 use Rattle.layer_spec.specs.Rows.{bit_of}
 use Rattle.layer_spec.specs.RowLaws.{bit_below, bit_back}
-use Rattle.layer_spec.specs.Heap.{HeapChild, HeapFields, is_action, are_actions, is_base, is_child, IsHeap, two_bytes, four_bytes, saved_flag, saved_mask, action_bytes, child_bytes, heap_bytes}
+use Rattle.layer_spec.specs.Heap.{HeapChild, HeapFields, is_action, are_actions, is_base, is_child, IsHeap, two_bytes}
+use Rattle.layer_spec.specs.Heap.{four_bytes, saved_flag, saved_mask, action_bytes, child_bytes, heap_bytes}
 use Rattle.layer_spec.specs.HeapReads.{byte_at, half_at, action_by, action_at, child_at, heap_in}
-use Rattle.layer_spec.specs.ReadLaws.{byte_at-behind, half_at-behind, byte_at-seam, half_at-seam, word_at-seam, ReadsBack, read_all}
+use Rattle.layer_spec.specs.ReadLaws.{byte_at-behind, half_at-behind, byte_at-seam, half_at-seam, word_at-seam}
+use Rattle.layer_spec.specs.ReadLaws.{ReadsBack, read_all}
 
 pub half_of_two : (n : ℕ) (after : List ℕ) → n < 2 ^ 16 → half_at (two_bytes n ++ after) 0 ≡ n
 unfolding half_at

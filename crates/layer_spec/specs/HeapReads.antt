@@ -1,5 +1,6 @@
 -- What the bytes of a cygheap tell, and the copy of one in the scratch region.
-use Rattle.std.specs.Prelude.{ℕ, ◌+◌, ◌*◌, nat_eq, if◌then◌else◌, List, ◌++◌, map, drop, take, slice_index_or, Option, Some, None}
+use Rattle.std.specs.Prelude.{ℕ, ◌+◌, ◌*◌, nat_eq, if◌then◌else◌, List, ◌++◌, map, drop, take, slice_index_or, Option}
+use Rattle.std.specs.Prelude.{Some, None}
 use Rattle.std.specs.Int.{w16, from_le_bytes}
 use Rattle.std.specs.List.{range_with_len}
 use Rattle.w32_base.specs.declared.instr.Action.{Action}

@@ -1,5 +1,7 @@
 -- In the states in which a run begins, rows and images show the POSIX machine's one process.
-use Rattle.std.specs.Prelude.{◌≡◌, ℕ, zero, suc, ◌+◌, ◌-◌, ◌≤◌, ◌<◌, Bool, true, false, nat_eq, if◌then◌else◌, List, [], ◌∷◌, length, map, replicate, slice_index, slice_index_or, slice_get, Option, Some, None, IsSome, MatchOption}
+use Rattle.std.specs.Prelude.{◌≡◌, ℕ, zero, suc, ◌+◌, ◌-◌, ◌≤◌, ◌<◌, Bool, true, false, nat_eq, if◌then◌else◌, List, []}
+use Rattle.std.specs.Prelude.{◌∷◌, length, map, replicate, slice_index, slice_index_or, slice_get, Option, Some, None}
+use Rattle.std.specs.Prelude.{IsSome, MatchOption}
 use Rattle.std.specs.Ordering.{nat_cmp, eq_by_cmp}
 use Rattle.std.specs.FinMap as finmap
 use Rattle.std.proofs.lemmas.Cmp.{nat_cmp_total}
@@ -15,7 +17,8 @@ use Rattle.vm_spec.specs.NewImage.{new_image}
 use Rattle.win32_spec.specs.State.{PlacedModule, Process, Win32State}
 use Rattle.win32_spec.specs.Placing.{base_in}
 use Rattle.win32_spec.specs.Making.{new_memory}
-use Rattle.win32_spec.specs.Opening.{opening_words, OpeningNumbers, first_main_word, first_group_word, opening_memory, opening_process, opening, IsOpening}
+use Rattle.win32_spec.specs.Opening.{opening_words, OpeningNumbers, first_main_word, first_group_word, opening_memory}
+use Rattle.win32_spec.specs.Opening.{opening_process, opening, IsOpening}
 use Rattle.posix_spec.specs.State as posix
 use Rattle.posix_spec.specs.State.{PosixState, record_of, opening_record}
 use Rattle.posix_spec.specs.Opening.{opening_of, first_image}
@@ -24,7 +27,8 @@ use Rattle.layer_spec.specs.Transitions.{blank}
 use Rattle.layer_spec.specs.Decoding.{main_of, group_of}
 use Rattle.layer_spec.specs.Words.{main_at, group_at}
 use Rattle.layer_spec.specs.Decodes.{AreBases, is_child_of, HoldsRecord, ShowsRecord, ShowsRow, Decodes}
-use Rattle.layer_spec.specs.OpeningHeapLaws.{Numbered, opening_fields, opening_layout, opening_heap_legal, base_in-numbered, numbered_by}
+use Rattle.layer_spec.specs.OpeningHeapLaws.{Numbered, opening_fields, opening_layout, opening_heap_legal}
+use Rattle.layer_spec.specs.OpeningHeapLaws.{base_in-numbered, numbered_by}
 
 same_number : (a b : ℕ) → eq_by_cmp nat_cmp a b ≡ nat_eq a b
 same_number a b = grind (arith, nat_tests)

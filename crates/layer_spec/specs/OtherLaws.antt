@@ -3,7 +3,8 @@ use Rattle.std.specs.Prelude.{◌≡◌, ℕ, ◌+◌, ◌*◌, ◌^◌, ◌<◌
 use Rattle.std.proofs.Common.{refl, ◌∙◌, ap, arith}
 use Rattle.std.proofs.lemmas.Bool.Decides.{nat_tests}
 use Rattle.layer_spec.specs.Inverse.{AreInverse, inverse_from, told_at, told_from}
-use Rattle.layer_spec.specs.Rows.{GroupWord, ExitWord, bit_of, group_word_of, exit_word_of, is_group, is_exit, IsGroup, IsExit}
+use Rattle.layer_spec.specs.Rows.{GroupWord, ExitWord, bit_of, group_word_of, exit_word_of, is_group, is_exit, IsGroup}
+use Rattle.layer_spec.specs.Rows.{IsExit}
 use Rattle.layer_spec.specs.Decoding.{group_fields, exit_fields, if_group, if_exit, group_of, exit_of}
 use Rattle.layer_spec.specs.RowLaws.{field_at, bit_below, bit_back}
 

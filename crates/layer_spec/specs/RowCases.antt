@@ -1,7 +1,8 @@
 -- Words of rows and their changes worked out: the fields at their ends, and what is no word.
 use Rattle.std.specs.Prelude.{◌≡◌, ◌+◌, ◌-◌, ◌*◌, ◌^◌, true, false, Some, None}
 use Rattle.std.proofs.Common.{refl}
-use Rattle.layer_spec.specs.Rows.{Free, Held, Running, Stopped, Zombie, Gone, MainWord, main_word_of, group_word_of, exit_word_of}
+use Rattle.layer_spec.specs.Rows.{Free, Held, Running, Stopped, Zombie, Gone, MainWord, main_word_of, group_word_of}
+use Rattle.layer_spec.specs.Rows.{exit_word_of}
 use Rattle.layer_spec.specs.Decoding.{main_of, group_of, exit_of}
 use Rattle.layer_spec.specs.Transitions.{Post, blank, trans}
 

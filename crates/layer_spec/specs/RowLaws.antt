@@ -4,7 +4,8 @@ use Rattle.std.proofs.Common.{refl, ◌∙◌, ap, arith}
 use Rattle.std.proofs.lemmas.Nat.{shr_high, mod_low}
 use Rattle.std.proofs.lemmas.Bool.Decides.{nat_tests}
 use Rattle.layer_spec.specs.Inverse.{AreInverse, inverse_from, told_at, told_from}
-use Rattle.layer_spec.specs.Rows.{RowKind, Free, Held, Running, Stopped, Zombie, Gone, kind_number, kind_from, MainWord, bit_of, low_bits, main_word_of, is_main, IsMain}
+use Rattle.layer_spec.specs.Rows.{RowKind, Free, Held, Running, Stopped, Zombie, Gone, kind_number, kind_from, MainWord}
+use Rattle.layer_spec.specs.Rows.{bit_of, low_bits, main_word_of, is_main, IsMain}
 use Rattle.layer_spec.specs.Decoding.{field, pending_in, status_in, main_fields, if_main, main_by_kind, main_of}
 
 -- the field of a number that is made of what stands above the field, the field, and what stands below it

@@ -4,7 +4,8 @@
 --     stop signal (56)
 --   group word: raw parent (0), group (12), session (24), terminal (36)
 --   exit word: status (0), image (9), fault (28)
-use Rattle.std.specs.Prelude.{◌≡◌, ℕ, ◌+◌, ◌-◌, ◌*◌, ◌^◌, Bool, true, false, ◌&&◌, ◌||◌, not, nat_eq, nat_lt, if◌then◌else◌, Option, Some, None}
+use Rattle.std.specs.Prelude.{◌≡◌, ℕ, ◌+◌, ◌-◌, ◌*◌, ◌^◌, Bool, true, false, ◌&&◌, ◌||◌, not, nat_eq, nat_lt}
+use Rattle.std.specs.Prelude.{if◌then◌else◌, Option, Some, None}
 use Rattle.posix_spec.specs.Signals.{is_stop_signal}
 
 -- the places of a row's words in the section; at place 0 stands the number of claimed rows

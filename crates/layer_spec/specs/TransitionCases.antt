@@ -3,7 +3,8 @@ use Rattle.std.specs.Prelude.{◌≡◌, ◌+◌, ◌*◌, ◌^◌, true, Some, 
 use Rattle.std.proofs.Common.{refl}
 use Rattle.layer_spec.specs.Rows.{Free, Held, Gone}
 use Rattle.layer_spec.specs.RowCases.{runs, is_stopped, exited}
-use Rattle.layer_spec.specs.Transitions.{Hold, Drop, Publish, Post, Probe, Clear, Stop, TakeOver, Seal, Report, Reap, Collect, blank, trans}
+use Rattle.layer_spec.specs.Transitions.{Hold, Drop, Publish, Post, Probe, Clear, Stop, TakeOver, Seal, Report, Reap}
+use Rattle.layer_spec.specs.Transitions.{Collect, blank, trans}
 
 -- the signals 1, 19 and 31, which are the bits 0, 18 and 30
 post_first : trans runs (Post 1) ≡ Some (record runs { pending = 1 })

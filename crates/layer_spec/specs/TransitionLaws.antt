@@ -1,12 +1,16 @@
 -- A change of a legal main word gives a legal one.
-use Rattle.std.specs.Prelude.{◌≡◌, ℕ, ◌-◌, ◌^◌, ◌<◌, Bool, true, false, ◌&&◌, nat_eq, nat_lt, if◌then◌else◌, Option, Some, None, bit_and}
+use Rattle.std.specs.Prelude.{◌≡◌, ℕ, ◌-◌, ◌^◌, ◌<◌, Bool, true, false, ◌&&◌, nat_eq, nat_lt, if◌then◌else◌, Option}
+use Rattle.std.specs.Prelude.{Some, None, bit_and}
 use Rattle.std.proofs.Common.{refl, subst, arith}
 use Rattle.std.proofs.lemmas.Nat.{or_lt, and_le_l, pow_below}
 use Rattle.std.proofs.lemmas.Bool.{and_parts}
 use Rattle.std.proofs.lemmas.Bool.Decides.{nat_tests}
-use Rattle.posix_spec.specs.Signals.{is_signal, only, contains, outside, continue_signal, is_stop_signal, generate, taken_by}
+use Rattle.posix_spec.specs.Signals.{is_signal, only, contains, outside, continue_signal, is_stop_signal, generate}
+use Rattle.posix_spec.specs.Signals.{taken_by}
 use Rattle.layer_spec.specs.Rows.{RowKind, Free, Held, Running, Stopped, Zombie, Gone, MainWord, IsMain, fits_kind}
-use Rattle.layer_spec.specs.Transitions.{Op, Hold, Drop, Publish, Post, Probe, Clear, Stop, TakeOver, Seal, Report, Reap, Collect, trans, is_op, held, gone, published, posted, woken, without, cleared, stopped, sealed, reported, taken_over, by_kind}
+use Rattle.layer_spec.specs.Transitions.{Op, Hold, Drop, Publish, Post, Probe, Clear, Stop, TakeOver, Seal, Report}
+use Rattle.layer_spec.specs.Transitions.{Reap, Collect, trans, is_op, held, gone, published, posted, woken, without}
+use Rattle.layer_spec.specs.Transitions.{cleared, stopped, sealed, reported, taken_over, by_kind}
 
 pub only_below : (s : ℕ) → is_signal s ≡ true → only s < 2 ^ 31
 only_below s h = let below : s - 1 < 31 = grind (arith, nat_tests) in rw h (pow_below (s - 1) 31 below)

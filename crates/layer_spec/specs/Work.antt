@@ -1,5 +1,6 @@
 -- How much a thread has done since anything was done that others can see.
-use Rattle.std.specs.Prelude.{ℕ, ◌+◌, Bool, true, false, ◌&&◌, ◌||◌, is_some, if◌then◌else◌, List, [], ◌∷◌, Option, Some, None}
+use Rattle.std.specs.Prelude.{ℕ, ◌+◌, Bool, true, false, ◌&&◌, ◌||◌, is_some, if◌then◌else◌, List, [], ◌∷◌, Option}
+use Rattle.std.specs.Prelude.{Some, None}
 use Rattle.w32_base.specs.declared.event.Event.{Event}
 use Rattle.w32_base.specs.declared.event.Event.TheVariants as event
 use Rattle.layer_spec.specs.Moment.{Seen}

@@ -16,7 +16,8 @@ shown_kind code.Zombie = rows.Zombie
 shown_kind code.Gone = rows.Gone
 
 -- a main word of these fields, and the other two words
-abbrev pub main_by : (kind : RowKind) (stop report : ℕ) (execd : Bool) (image : ℕ) (pending : SigSet) (status : ℕ) → MainWord
+abbrev pub main_by : (kind : RowKind) (stop report : ℕ) (execd : Bool) (image : ℕ) (pending : SigSet) (status : ℕ)
+    → MainWord
 main_by kind stop report execd image pending status = record {
   kind = shown_kind kind;
   stop = stop;
