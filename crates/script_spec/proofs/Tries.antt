@@ -22,7 +22,8 @@ far_target = refl
 no_schedule : fault_of (head ++ codes "exit 0\n") ≡ Some (7, kind.Missing)
 no_schedule = refl
 
-a_script : fault_of (head ++ codes "# a line\n\naction r3 handler 1 restart\nexit -5\nschedule\nturn 1 2\nkey 0a\nsettle\n") ≡ None
+a_script : fault_of
+    (head ++ codes "# a line\n\naction r3 handler 1 restart\nexit -5\nschedule\nturn 1 2\nkey 0a\nsettle\n") ≡ None
 a_script = refl
 
 a_faulty_line_bars_target : fault_of (head ++ codes "jump 9\nexit -0\nschedule\nsettle\n") ≡ Some (7, kind.BadNumber)

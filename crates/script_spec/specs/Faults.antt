@@ -1,7 +1,9 @@
 -- The kinds of fault in their order.
-use Rattle.std.specs.Prelude.{ℕ, Bool, true, false, nat_le, List, [], ◌∷◌, Option, Some, None, if◌then◌else◌}
+use Rattle.std.specs.Prelude.{ℕ, Bool, nat_le, Option, Some, None, if◌then◌else◌}
 use Rattle.script_spec.specs.declared.fault.Kind.{Kind}
-use Rattle.script_spec.specs.declared.fault.Kind.TheVariants.{Large, NoHeader, Unfinished, NotAscii, TooLong, Missing, Unknown, Words, BadNumber, Range, BadName, Twice, TooMany, Target}
+use Rattle.script_spec.specs.declared.fault.Kind.TheVariants.{Large, NoHeader, Unfinished, NotAscii, TooLong, Missing}
+use Rattle.script_spec.specs.declared.fault.Kind.TheVariants.{Unknown, Words, BadNumber, Range, BadName, Twice, TooMany}
+use Rattle.script_spec.specs.declared.fault.Kind.TheVariants.{Target}
 
 -- a kind's number in the order
 abbrev pub kind_number : Kind → ℕ

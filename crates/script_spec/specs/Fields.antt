@@ -1,10 +1,12 @@
 -- What a word of a line must be, and its fault where it isn't.
-use Rattle.std.specs.Prelude.{ℕ, ◌^◌, Bool, true, false, ◌&&◌, ◌||◌, not, nat_le, nat_lt, List, Option, Some, None, if◌then◌else◌}
+use Rattle.std.specs.Prelude.{ℕ, ◌||◌, not, nat_lt, List, Option, Some}
+use Rattle.std.specs.Prelude.{if◌then◌else◌}
 use Rattle.w32_base.specs.Name.{is_name}
 use Rattle.w32_base.specs.Names.{is_same}
 use Rattle.script_spec.specs.declared.fault.Kind.{Kind}
 use Rattle.script_spec.specs.declared.fault.Kind.TheVariants.{Words, BadNumber, Range, BadName}
-use Rattle.script_spec.specs.Numbers.{is_empty, is_canonical, value_of, is_signed_canonical, is_in_32_bits, is_key_byte, is_register, begins_with_r}
+use Rattle.script_spec.specs.Numbers.{is_empty, is_canonical, value_of, is_signed_canonical, is_in_32_bits, is_key_byte}
+use Rattle.script_spec.specs.Numbers.{is_register, begins_with_r}
 use Rattle.script_spec.specs.Faults.{fault_if}
 
 pub data Field : Type 0 where

@@ -1,5 +1,6 @@
 -- The first fault of a text: of the least line, and on it the least kind.
-use Rattle.std.specs.Prelude.{◌≡◌, ℕ, suc, ◌+◌, Bool, true, false, ◌&&◌, ◌||◌, nat_le, nat_lt, List, [], ◌∷◌, length, Option, Some, None, option_map, option_and_then, if◌then◌else◌}
+use Rattle.std.specs.Prelude.{◌≡◌, ℕ, suc, Bool, true, false, ◌&&◌, ◌||◌, nat_le, nat_lt, List, [], ◌∷◌, length}
+use Rattle.std.specs.Prelude.{Option, Some, None, option_map, option_and_then, if◌then◌else◌}
 use Rattle.script_spec.specs.declared.fault.Kind.{Kind}
 use Rattle.script_spec.specs.declared.fault.Kind.TheVariants.{Large, Target}
 use Rattle.script_spec.specs.declared.fault.Sort.{Sort}
@@ -7,7 +8,7 @@ use Rattle.script_spec.specs.declared.fault.Sort.TheVariants as sort
 use Rattle.script_spec.specs.Lines.{Line, lines_of, words_of, is_skipped}
 use Rattle.script_spec.specs.FirstWords.{first_word, sort_of_words, either}
 use Rattle.script_spec.specs.Forms.{forms, kept_form, place_as}
-use Rattle.script_spec.specs.Places.{end_fault, is_one_of, has_sort}
+use Rattle.script_spec.specs.Places.{end_fault, has_sort}
 use Rattle.script_spec.specs.LineFaults.{line_fault}
 
 -- what is said of a line: its number, its sort where it isn't skipped and its first word is known, its least fault but

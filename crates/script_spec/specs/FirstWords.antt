@@ -67,7 +67,8 @@ local_words_known = word.Set ∷ word.Add ∷ word.Load ∷ word.Store ∷ word.
     ∷ word.JumpZero ∷ word.JumpNegative ∷ []
 
 abbrev pub process_words_known : List InstrWord
-process_words_known = word.GetPid ∷ word.GetPpid ∷ word.GetPgid ∷ word.GetSid ∷ word.Fork ∷ word.Exec ∷ word.Exit ∷ word.Wait ∷ []
+process_words_known =
+    word.GetPid ∷ word.GetPpid ∷ word.GetPgid ∷ word.GetSid ∷ word.Fork ∷ word.Exec ∷ word.Exit ∷ word.Wait ∷ []
 
 abbrev pub signal_words_known : List InstrWord
 signal_words_known = word.Kill ∷ word.Action ∷ word.Mask ∷ word.Suspend ∷ word.Pause ∷ word.Return ∷ []
@@ -80,7 +81,8 @@ abbrev pub directive_words_known : List DirectiveWord
 directive_words_known = directive.Turn ∷ directive.End ∷ directive.Key ∷ directive.Steps ∷ directive.Settle ∷ []
 
 abbrev pub other_words_known : List FirstWord
-other_words_known = first.CygScript ∷ first.Slots ∷ first.Rows ∷ first.Budget ∷ first.Module ∷ first.Occupy ∷ first.Program
+other_words_known =
+    first.CygScript ∷ first.Slots ∷ first.Rows ∷ first.Budget ∷ first.Module ∷ first.Occupy ∷ first.Program
     ∷ first.Schedule ∷ []
 
 -- the one of some words that has this text
@@ -116,7 +118,8 @@ other_word text = with_text word_text other_words_known text
 
 -- the first word that has this text
 abbrev pub first_word : List ℕ → Option FirstWord
-first_word text = either (option_map first.Instr (instr_word text)) (either (option_map first.Directive (directive_word text))
+first_word text =
+    either (option_map first.Instr (instr_word text)) (either (option_map first.Directive (directive_word text))
     (other_word text))
 
 -- the sort of line that begins with it

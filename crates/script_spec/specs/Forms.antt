@@ -10,7 +10,8 @@ use Rattle.script_spec.specs.declared.fault.DirectiveWord.{DirectiveWord}
 use Rattle.script_spec.specs.declared.fault.DirectiveWord.TheVariants as directive
 use Rattle.script_spec.specs.Numbers.{value_of}
 use Rattle.script_spec.specs.Faults.{least}
-use Rattle.script_spec.specs.Fields.{Field, FixedWord, RegisterWord, ValueWord, PlaceWord, NumberWord, NameWord, KeyWord, field_fault}
+use Rattle.script_spec.specs.Fields.{Field, FixedWord, RegisterWord, ValueWord, PlaceWord, NumberWord, NameWord}
+use Rattle.script_spec.specs.Fields.{KeyWord, field_fault}
 
 -- the forms of an instruction
 abbrev pub instr_forms : InstrWord → List (List Field)
@@ -64,7 +65,9 @@ forms slots first.Rows = (NumberWord 1 4000 ∷ []) ∷ []
 forms slots first.Budget = (NumberWord 1 500000 ∷ []) ∷ []
 forms slots first.Module = (NameWord ∷ NumberWord 0 1023 ∷ NumberWord 1 8 ∷ []) ∷ []
 forms slots first.Occupy = (NumberWord 1 500000 ∷ NumberWord 0 1023 ∷ []) ∷ []
-forms slots first.Program = (NameWord ∷ FixedWord (codes "heap") ∷ NumberWord 0 32768 ∷ FixedWord (codes "stack") ∷ NumberWord 64 32768 ∷ []) ∷ []
+forms slots first.Program =
+    (NameWord ∷ FixedWord (codes "heap") ∷ NumberWord 0 32768 ∷ FixedWord (codes "stack") ∷ NumberWord 64 32768 ∷ []) ∷
+    []
 forms slots (first.Instr w) = instr_forms w
 forms slots first.Schedule = [] ∷ []
 forms slots (first.Directive w) = directive_forms slots w

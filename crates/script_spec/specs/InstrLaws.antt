@@ -1,5 +1,6 @@
 -- The words of a valid instruction are short and of graphic bytes.
-use Rattle.std.proofs.Common.{◌≡◌, ℕ, ◌^◌, ◌≤◌, ◌<◌, Bool, true, false, ◌&&◌, not, nat_eq, nat_le, nat_lt, List, [], ◌∷◌, length, refl, arith}
+use Rattle.std.proofs.Common.{◌≡◌, ℕ, ◌^◌, ◌≤◌, ◌<◌, Bool, true, false, ◌&&◌, not, nat_eq, nat_le, nat_lt, List, []}
+use Rattle.std.proofs.Common.{◌∷◌, length, refl, arith}
 use Rattle.std.specs.Prelude.{codes}
 use Rattle.std.specs.Fmt.{decimal}
 use Rattle.std.specs.List.{list_all}
@@ -32,13 +33,17 @@ number_word low n high small le = decimal_word n (omega arith)
 place_word : (most n : ℕ) → most ≤ 4000 → nat_lt n most ≡ true → is_word (decimal n) ≡ true
 place_word most n few h = let less : n < most = ltb-true n most h in decimal_word n (omega arith)
 
-two : (u v : Operand) → (is_valid_operand u && is_valid_operand v) ≡ true → are_words (operand_text u ∷ operand_text v ∷ []) ≡ true
+two : (u v : Operand) → (is_valid_operand u && is_valid_operand v) ≡ true
+    → are_words (operand_text u ∷ operand_text v ∷ []) ≡ true
 two u v h = let p = and_parts (is_valid_operand u) (is_valid_operand v) h in
-    words_more (operand_text u) (operand_text v ∷ []) (operand_word u p.0) (words1 (operand_text v) (operand_word v p.1))
+    words_more (operand_text u) (operand_text v ∷ []) (operand_word u p.0)
+    (words1 (operand_text v) (operand_word v p.1))
 
-register_value : (r : ℕ) (v : Operand) → (nat_lt r 8 && is_valid_operand v) ≡ true → are_words (register_text r ∷ operand_text v ∷ []) ≡ true
+register_value : (r : ℕ) (v : Operand) → (nat_lt r 8 && is_valid_operand v) ≡ true
+    → are_words (register_text r ∷ operand_text v ∷ []) ≡ true
 register_value r v h = let p = and_parts (nat_lt r 8) (is_valid_operand v) h in
-    words_more (register_text r) (operand_text v ∷ []) (register_word r p.0) (words1 (operand_text v) (operand_word v p.1))
+    words_more (register_text r) (operand_text v ∷ []) (register_word r p.0)
+    (words1 (operand_text v) (operand_word v p.1))
 
 one : (v : Operand) → is_valid_operand v ≡ true → are_words (operand_text v ∷ []) ≡ true
 one v h = words1 (operand_text v) (operand_word v h)
@@ -46,16 +51,19 @@ one v h = words1 (operand_text v) (operand_word v h)
 action_good : (a : Action) (most : ℕ) → most ≤ 4000 → is_handler_below most a ≡ true → are_words (action_words a) ≡ true
 action_good action.Default most few t = refl
 action_good action.Ignore most few t = refl
-action_good (action.Handler place true) most few t = words_more (decimal place) (codes "restart" ∷ []) (place_word most place few t) refl
+action_good (action.Handler place true) most few t =
+    words_more (decimal place) (codes "restart" ∷ []) (place_word most place few t) refl
 action_good (action.Handler place false) most few t = words1 (decimal place) (place_word most place few t)
 
-change_good : (c : MaskChange) (v : Operand) → is_valid_operand v ≡ true → are_words (change_text c ∷ operand_text v ∷ []) ≡ true
+change_good : (c : MaskChange) (v : Operand) → is_valid_operand v ≡ true
+    → are_words (change_text c ∷ operand_text v ∷ []) ≡ true
 change_good change.Block v h = one v h
 change_good change.Unblock v h = one v h
 change_good change.Set v h = one v h
 
 -- each word of a valid instruction is short and of graphic bytes, where the place that it names is one of a program
-pub instr_are_words : (i : Instr) (most : ℕ) → most ≤ 4000 → is_valid_instr i ≡ true → is_target_below most i ≡ true → are_words (instr_words i) ≡ true
+pub instr_are_words : (i : Instr) (most : ℕ) → most ≤ 4000 → is_valid_instr i ≡ true → is_target_below most i ≡ true
+    → are_words (instr_words i) ≡ true
 instr_are_words (instr.Set r v) most few h t = register_value r v h
 instr_are_words (instr.Add r v) most few h t = register_value r v h
 instr_are_words (instr.Load r v) most few h t = register_value r v h
@@ -63,8 +71,10 @@ instr_are_words (instr.Store u v) most few h t = two u v h
 instr_are_words (instr.Push v) most few h t = one v h
 instr_are_words (instr.Pop r) most few h t = words1 (register_text r) (register_word r h)
 instr_are_words (instr.Jump n) most few h t = words1 (decimal n) (place_word most n few t)
-instr_are_words (instr.JumpZero v n) most few h t = words_more (operand_text v) (decimal n ∷ []) (operand_word v h) (words1 (decimal n) (place_word most n few t))
-instr_are_words (instr.JumpNegative v n) most few h t = words_more (operand_text v) (decimal n ∷ []) (operand_word v h) (words1 (decimal n) (place_word most n few t))
+instr_are_words (instr.JumpZero v n) most few h t =
+    words_more (operand_text v) (decimal n ∷ []) (operand_word v h) (words1 (decimal n) (place_word most n few t))
+instr_are_words (instr.JumpNegative v n) most few h t =
+    words_more (operand_text v) (decimal n ∷ []) (operand_word v h) (words1 (decimal n) (place_word most n few t))
 instr_are_words instr.GetPid most few h t = refl
 instr_are_words instr.GetPpid most few h t = refl
 instr_are_words instr.GetPgid most few h t = refl
@@ -74,7 +84,8 @@ instr_are_words (instr.Exec name) most few h t = words1 name (name_word name h)
 instr_are_words (instr.Exit v) most few h t = one v h
 instr_are_words (instr.Wait u v) most few h t = two u v h
 instr_are_words (instr.Kill u v) most few h t = two u v h
-instr_are_words (instr.Action v a) most few h t = words_more (operand_text v) (action_words a) (operand_word v h) (action_good a most few t)
+instr_are_words (instr.Action v a) most few h t =
+    words_more (operand_text v) (action_words a) (operand_word v h) (action_good a most few t)
 instr_are_words (instr.Mask c v) most few h t = change_good c v h
 instr_are_words (instr.Suspend v) most few h t = one v h
 instr_are_words instr.Pause most few h t = refl

@@ -1,9 +1,11 @@
 -- The least fault of a line, but for the places that it names.
-use Rattle.std.specs.Prelude.{ℕ, ◌+◌, Bool, true, false, ◌&&◌, not, nat_le, nat_lt, List, [], ◌∷◌, length, Option, Some, None, option_map, codes, if◌then◌else◌}
+use Rattle.std.specs.Prelude.{ℕ, ◌+◌, Bool, false, ◌&&◌, not, nat_le, nat_lt, List, [], ◌∷◌, length, Option, Some}
+use Rattle.std.specs.Prelude.{None, codes, if◌then◌else◌}
 use Rattle.std.specs.List.{list_all}
 use Rattle.w32_base.specs.Names.{is_same, is_among}
 use Rattle.script_spec.specs.declared.fault.Kind.{Kind}
-use Rattle.script_spec.specs.declared.fault.Kind.TheVariants.{NoHeader, Unfinished, NotAscii, TooLong, Unknown, Range, Twice, TooMany}
+use Rattle.script_spec.specs.declared.fault.Kind.TheVariants.{NoHeader, Unfinished, NotAscii, TooLong, Unknown, Range}
+use Rattle.script_spec.specs.declared.fault.Kind.TheVariants.{Twice, TooMany}
 use Rattle.script_spec.specs.declared.fault.FirstWord.{FirstWord}
 use Rattle.script_spec.specs.declared.fault.FirstWord.TheVariants as first
 use Rattle.script_spec.specs.declared.fault.Sort.{Sort}
@@ -21,7 +23,8 @@ is_printable b = nat_le 32 b && nat_le b 126
 -- of every line, skipped ones too: it is ended, of the right bytes, and not too long
 abbrev pub bytes_fault : Line → Option Kind
 bytes_fault line = if not line.is_ended then Some Unfinished
-    else (if not (list_all is_printable line.bytes) then Some NotAscii else fault_if (nat_lt 200 (length line.bytes)) TooLong)
+    else (if not (list_all is_printable line.bytes) then Some NotAscii else
+    fault_if (nat_lt 200 (length line.bytes)) TooLong)
 
 -- the pages of a module end at 1024
 abbrev pub pages_fault : FirstWord → List (List ℕ) → Option Kind
@@ -53,7 +56,8 @@ written_fault before word ws =
     (least (twice_fault (sort_of word) before ws)
     (fault_if (is_full (sort_of word) before) TooMany)))
 
--- the fault of a line with a known first word, after a line of a sort; a line that may not stand here is judged no further
+-- the fault of a line with a known first word, after a line of a sort; a line that may not stand here is judged no
+-- further
 abbrev pub known_fault : List (List (List ℕ)) → Option Sort → FirstWord → List (List ℕ) → Option Kind
 known_fault before None word ws = Some Unknown
 known_fault before (Some last) word ws = least (place_fault last (sort_of word)) (written_fault before word ws)

@@ -1,5 +1,6 @@
 -- Where a line may stand. The lines before it that aren't skipped are given as their words, the last of them first.
-use Rattle.std.specs.Prelude.{ℕ, suc, ◌+◌, Bool, true, false, nat_eq, nat_le, List, [], ◌∷◌, Option, Some, None, if◌then◌else◌}
+use Rattle.std.specs.Prelude.{ℕ, suc, Bool, true, false, nat_eq, nat_le, List, [], ◌∷◌, Option, Some, None}
+use Rattle.std.specs.Prelude.{if◌then◌else◌}
 use Rattle.script_spec.specs.declared.fault.Kind.{Kind}
 use Rattle.script_spec.specs.declared.fault.Kind.TheVariants.{NoHeader, Missing, Unknown}
 use Rattle.script_spec.specs.declared.fault.Sort.{Sort}

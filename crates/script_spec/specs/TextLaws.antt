@@ -1,10 +1,10 @@
 -- The lines of a text that is made of lines, and the words of a line that is made of words.
-use Rattle.std.proofs.Common.{◌≡◌, ℕ, ◌≤◌, ◌<◌, Bool, true, false, ◌&&◌, not, nat_eq, nat_le, List, [], ◌∷◌, ◌++◌, length, map, refl, sym, ap, subst, ◌∙◌, append_assoc, arith, inl, inr}
-use Rattle.std.specs.Prelude.{flat_map, if◌then◌else◌}
+use Rattle.std.proofs.Common.{◌≡◌, ℕ, Bool, true, false, not, nat_eq, List, [], ◌∷◌, ◌++◌}
+use Rattle.std.proofs.Common.{map, refl, ap, ◌∙◌, append_assoc, inl, inr}
 use Rattle.std.specs.List.{list_all}
-use Rattle.std.proofs.lemmas.Bool.{and_parts, and_from, not-true, eq-eqb, cases_Bool}
-use Rattle.script_spec.specs.Lines.{pieces, with_byte, Line, as_lines, lines_of, words_of, spaced, is_skipped, not_skipped}
-use Rattle.script_spec.specs.Print.{line_text, words_text}
+use Rattle.std.proofs.lemmas.Bool.{and_parts, not-true, eq-eqb, cases_Bool}
+use Rattle.script_spec.specs.Lines.{pieces, with_byte, Line, as_lines, lines_of, words_of, spaced}
+use Rattle.script_spec.specs.Print.{words_text}
 
 -- a byte that isn't the separator
 abbrev pub is_other : ℕ → ℕ → Bool
@@ -28,7 +28,8 @@ pieces-last separator (b ∷ bs) h =
     rw (other, pieces-last separator bs parts.1) refl
 
 -- words without a space are the words of the line that they make
-pub words_of-spaced : (w : List ℕ) (ws : List (List ℕ)) → list_all (list_all (is_other 32)) (w ∷ ws) ≡ true → words_of (spaced (w ∷ ws)) ≡ w ∷ ws
+pub words_of-spaced : (w : List ℕ) (ws : List (List ℕ)) → list_all (list_all (is_other 32)) (w ∷ ws) ≡ true
+    → words_of (spaced (w ∷ ws)) ≡ w ∷ ws
 words_of-spaced w [] h = pieces-last 32 w (and_parts (list_all (is_other 32) w) true h).0
 words_of-spaced w (v ∷ ws) h =
     let parts = and_parts (list_all (is_other 32) w) (list_all (list_all (is_other 32)) (v ∷ ws)) h in
@@ -56,15 +57,19 @@ pieces_some separator (b ∷ bs) e =
     ]
 
 -- the first line of a text
-pub lines_of-line : (p rest : List ℕ) → list_all (is_other 10) p ≡ true → lines_of (p ++ 10 ∷ rest) ≡ ended p ∷ lines_of rest
+pub lines_of-line : (p rest : List ℕ) → list_all (is_other 10) p ≡ true
+    → lines_of (p ++ 10 ∷ rest) ≡ ended p ∷ lines_of rest
 lines_of-line p rest h = ap as_lines (pieces-append 10 p rest h) ∙ some_pieces p (pieces 10 rest) (pieces_some 10 rest)
 
 -- the lines of a text of lines
-pub lines_of-words_text : (lines : List (List (List ℕ))) → list_all (λ (ws : List (List ℕ)). list_all (is_other 10) (spaced ws)) lines ≡ true
+pub lines_of-words_text : (lines : List (List (List ℕ)))
+    → list_all (λ (ws : List (List ℕ)). list_all (is_other 10) (spaced ws)) lines ≡ true
     → lines_of (words_text lines) ≡ map (λ (ws : List (List ℕ)). ended (spaced ws)) lines
 lines_of-words_text [] h = refl
 lines_of-words_text (ws ∷ lines) h =
-    let parts = and_parts (list_all (is_other 10) (spaced ws)) (list_all (λ (vs : List (List ℕ)). list_all (is_other 10) (spaced vs)) lines) h in
+    let parts =
+    and_parts (list_all (is_other 10) (spaced ws))
+    (list_all (λ (vs : List (List ℕ)). list_all (is_other 10) (spaced vs)) lines) h in
     ap lines_of (append_assoc (spaced ws) (10 ∷ []) (words_text lines))
     ∙ lines_of-line (spaced ws) (words_text lines) parts.0
     ∙ ap (λ (ls : List Line). ended (spaced ws) ∷ ls) (lines_of-words_text lines parts.1)

@@ -1,5 +1,5 @@
 -- The ranges and names that a script keeps.
-use Rattle.std.specs.Prelude.{◌≡◌, ◌≤◌, ℕ, ◌+◌, pos, negsuc, ℤ, Bool, true, ◌&&◌, nat_le, nat_lt, List, [], ◌∷◌, length}
+use Rattle.std.specs.Prelude.{◌≡◌, ◌≤◌, ℕ, ◌+◌, pos, negsuc, ℤ, Bool, true, ◌&&◌, nat_le, nat_lt, length}
 use Rattle.std.specs.List.{list_all}
 use Rattle.w32_base.specs.Name.{is_name}
 use Rattle.w32_base.specs.Names.{are_distinct}
@@ -73,7 +73,8 @@ abbrev pub is_valid_page : OccupiedPage → Bool
 is_valid_page o = is_within 1 500000 o.creation && nat_lt o.page 1024
 
 abbrev pub is_valid_program : Program → Bool
-is_valid_program p = is_name p.name && nat_le p.heap 32768 && is_within 64 32768 p.stack && is_within 1 4000 (length p.code)
+is_valid_program p =
+    is_name p.name && nat_le p.heap 32768 && is_within 64 32768 p.stack && is_within 1 4000 (length p.code)
     && list_all is_valid_instr p.code && are_targets_below (length p.code) p.code
 
 -- and a thread is 0 to 2, a key a byte
