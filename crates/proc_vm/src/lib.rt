@@ -4,6 +4,7 @@
 
 mod block;
 mod frames;
+mod kept;
 mod next;
 mod readers;
 mod step;
@@ -14,6 +15,7 @@ mod writers;
 
 pub use block::run_block;
 pub use frames::{NoFrame, NoRoom, pop_frame, push_frame};
+pub use kept::{Change, Undo, run_block_kept, undo_block};
 pub use next::{CallInstr, Next, next_instr};
 pub use readers::{next_place, operand_value, program_number, register, stack_in_use};
 pub use writers::set_result;

@@ -12,7 +12,7 @@ use crate::writers::{go_to, move_on, set_in_use, set_register};
 use w32_base::{Instr, Operand, Own, Program, Register};
 
 /// The place of the heap that an operand names, or none where it is outside.
-fn heap_place(own: &Own, address: Operand) -> Option<usize>
+pub fn heap_place(own: &Own, address: Operand) -> Option<usize>
     requires { length own.now.dat ≡ 64 }
     ensures { MatchOption result
         (is_outside (length own.now.heap) (value_of (image_of own.now) address) ≡ true)

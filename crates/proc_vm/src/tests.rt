@@ -79,6 +79,22 @@ fn block(own: &mut Own, p: &Program) -> u16
     }
 }
 
+/// How many instructions the next block has, which is carried out and taken back.
+fn block_and_back(own: &mut Own, p: &Program) -> u16
+    requires { length own.old.dat ≡ 64 }
+    ensures { length own.new.dat ≡ 64 }
+{
+    let mut kept = Undo::new();
+    match next_instr(own, p) {
+        Next::Local => {
+            let count = run_block_kept(own, p, &mut kept);
+            undo_block(own, &kept);
+            count
+        }
+        _ => 0,
+    }
+}
+
 /// Writes a result where the next place allows it.
 fn answer(own: &mut Own, r0: i32, r1: Option<i32>)
     requires { length own.old.dat ≡ 64 }
@@ -261,5 +277,28 @@ fn a_frame_needs_40_bytes(rt: HostRuntime) -> Result<(), Fail> {
     assert_eq!(rt; pushed(&mut memory(rt.alloc(), 25)?, 1, 1), Err(NoRoom));
     assert_eq!(rt; popped(&mut memory(rt.alloc(), 40)?), Ok(0));
     assert_eq!(rt; popped(&mut memory(rt.alloc(), 39)?), Err(NoFrame));
+    Ok(())
+}
+
+#[test]
+fn a_block_is_taken_back(rt: HostRuntime) -> Result<(), Fail> {
+    let code = [
+        Instr::Store(number(0), number(9)),
+        Instr::Push(number(5)),
+        Instr::Add(r(0), number(1)),
+        Instr::Store(number(0), number(7)),
+        Instr::Exit(number(0)),
+    ];
+    let p = program(rt.alloc(), &code)?;
+    let mut own = memory(rt.alloc(), 0)?;
+    assert_eq!(rt; block_and_back(&mut own, &p), 4);
+    assert_eq!(rt; own.heap.get(0), Some(0));
+    assert_eq!(rt; own.stack.get(0), Some(0));
+    assert_eq!(rt; stack_in_use(&own), 0);
+    assert_eq!(rt; next_place(&own), 0);
+    assert_eq!(rt; register(&own, r(0)), 0);
+    assert_eq!(rt; block(&mut own, &p), 4);
+    assert_eq!(rt; own.heap.get(0), Some(7));
+    assert_eq!(rt; block_and_back(&mut own, &p), 0);
     Ok(())
 }
