@@ -25,7 +25,8 @@ IsDone-none code old h = record {
 }
 
 -- the image of the memory after n
-pub IsDone-image : (code : List Instr) (old new : Own) (n : ℕ) → IsDone code old new n → image_of new ≡ block_of n code (image_of old)
+pub IsDone-image : (code : List Instr) (old new : Own) (n : ℕ) → IsDone code old new n
+    → image_of new ≡ block_of n code (image_of old)
 IsDone-image code old new n h = ap image_of h.value
 
 -- one more
@@ -36,10 +37,18 @@ unfolding block_of
 IsDone-more code old now new n h local is len sizes =
     let image_is = IsDone-image code old now n h in
     record {
-      value = rw add-one (is ∙ ap (λ i. with_image now (local_step code i)) image_is ∙ ap (λ (o : Own). with_image o (local_step code (block_of n code (image_of old)))) h.value);
+      value =
+          rw add-one (is ∙ ap (λ i. with_image now (local_step code i)) image_is ∙
+          ap (λ (o : Own). with_image o (local_step code (block_of n code (image_of old)))) h.value);
       local = below_more _ n h.local (rw image_is at local);
       len = len;
-      sizes = record { dat = sizes.dat ∙ h.sizes.dat; heap = sizes.heap ∙ h.sizes.heap; stack = sizes.stack ∙ h.sizes.stack };
+      sizes =
+          record {
+            dat = sizes.dat ∙ h.sizes.dat;
+            heap = sizes.heap ∙ h.sizes.heap;
+            stack = sizes.stack ∙
+                h.sizes.stack;
+          };
     }
 
 -- a block whose first instruction is local has one at the least where the next is not local
@@ -67,6 +76,8 @@ IsDone-length code old now n h most not_local =
     (IsBlock-iff code (image_of old) n).0 (IsDone-block code old now n h most not_local)
 
 pub IsDone-whole : (code : List Instr) (old now : Own) (n : ℕ) → IsDone code old now n → n ≤ 256 →
-    (n < 256 → upcoming code (image_of now) ≡ LocalInstruction → ⊥) → now ≡ with_image old (block_image code (image_of old))
+    (n < 256 → upcoming code (image_of now) ≡ LocalInstruction → ⊥)
+    → now ≡ with_image old (block_image code (image_of old))
 IsDone-whole code old now n h most not_local =
-    h.value ∙ ap (λ i. with_image old i) (IsBlock-image code (image_of old) n (IsDone-block code old now n h most not_local))
+    h.value ∙
+    ap (λ i. with_image old i) (IsBlock-image code (image_of old) n (IsDone-block code old now n h most not_local))

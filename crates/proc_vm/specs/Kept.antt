@@ -1,5 +1,6 @@
 -- What a block of local instructions changed, kept so that the block can be taken back.
-use Rattle.std.specs.Prelude.{◌≡◌, ℕ, ◌+◌, ◌≤◌, ◌<◌, List, [], ◌∷◌, ◌++◌, length, take, drop, slice_set, Option, Some, None, All}
+use Rattle.std.specs.Prelude.{◌≡◌, ℕ, ◌+◌, ◌≤◌, ◌<◌, List, [], ◌∷◌, ◌++◌, length, take, drop, slice_set, Option, Some}
+use Rattle.std.specs.Prelude.{None, All}
 use Rattle.vm_spec.specs.Image.{Image, with_word, in_use}
 use Rattle.proc_vm.specs.declared.kept.Change.{Change}
 use Rattle.proc_vm.specs.declared.kept.Change.TheVariants as change

@@ -1,6 +1,8 @@
 -- Signals in sets, and the least one of a set.
-use Rattle.std.proofs.Common.{◌≡◌, ℕ, zero, suc, ◌+◌, ◌-◌, ◌*◌, ◌^◌, ◌≤◌, ◌<◌, true, false, not, nat_eq, Some, None, refl, sym, ◌∙◌, ap, arith, inl, inr, bit_and}
-use Rattle.std.proofs.lemmas.Bool.{cases_eq, le-leb, and_from, and_parts, cond-true, cond-false, leb-true, eq-eqb, ne_eqb, not_from_true, not_from_false}
+use Rattle.std.proofs.Common.{◌≡◌, ℕ, zero, suc, ◌+◌, ◌-◌, ◌*◌, ◌^◌, ◌≤◌, ◌<◌, true, false, not, nat_eq, Some, None}
+use Rattle.std.proofs.Common.{refl, sym, ◌∙◌, ap, arith, inl, inr, bit_and}
+use Rattle.std.proofs.lemmas.Bool.{cases_eq, le-leb, and_from, and_parts, cond-true, cond-false, leb-true, eq-eqb}
+use Rattle.std.proofs.lemmas.Bool.{ne_eqb, not_from_true, not_from_false}
 use Rattle.std.proofs.lemmas.Nat.Bits.{and_pow, bit_at-trailing_zeros, bit_at_above}
 use Rattle.std.proofs.Math.Pow.{pow-lt}
 use Rattle.std.proofs.Math.Nat.{one-le-pow}
@@ -24,7 +26,8 @@ only-lt s h =
 contains-at : (set k b : ℕ) → k < 31 → bit_at set k ≡ b → contains set (suc k) ≡ not (nat_eq (b * 2 ^ k) 0)
 contains-at set k b l e =
     let less : suc k - 1 ≡ k = omega arith in
-    let one : only (suc k) ≡ 2 ^ k = only-is (suc k) (is_signal-from (suc k) (omega arith) (omega arith)) ∙ ap (λ n. 2 ^ n) less in
+    let one : only (suc k) ≡ 2 ^ k = only-is (suc k) (is_signal-from (suc k) (omega arith) (omega arith)) ∙
+        ap (λ n. 2 ^ n) less in
     let bit : bit_and set (only (suc k)) ≡ b * 2 ^ k = ap (bit_and set) one ∙ and_pow set k ∙ ap (λ x. x * 2 ^ k) e in
     ap (λ n. not (nat_eq n 0)) bit
 
@@ -35,7 +38,8 @@ least_from-none (suc n) s set h =
     cond-false (contains set s) (Some s) (least_from n (s + 1) set) (h s (omega arith) (omega arith))
     ∙ least_from-none n (s + 1) set (λ k l m. h k (omega arith) (omega arith))
 
-pub least_from-some : (n s set t : ℕ) → s ≤ t → t < s + n → contains set t ≡ true → ((k : ℕ) → s ≤ k → k < t → contains set k ≡ false) →
+pub least_from-some : (n s set t : ℕ) → s ≤ t → t < s + n → contains set t ≡ true
+    → ((k : ℕ) → s ≤ k → k < t → contains set k ≡ false) →
     least_from n s set ≡ Some t
 least_from-some zero s set t low high is lower = absurd (omega arith)
 least_from-some (suc n) s set t low high is lower =
@@ -60,14 +64,17 @@ clear_at : (set k : ℕ) → k < 31 → bit_at set k ≡ 0 → contains set (suc
 clear_at set k l e =
     contains-at set k 0 l e ∙ not_from_true (nat_eq (0 * 2 ^ k) 0) (eq-eqb (0 * 2 ^ k) 0 (omega arith))
 
-clear_below : (set t : ℕ) → t < 31 → ((i : ℕ) → i < t → bit_at set i ≡ 0) → (k : ℕ) → 1 ≤ k → k < t + 1 → contains set k ≡ false
+clear_below : (set t : ℕ) → t < 31 → ((i : ℕ) → i < t → bit_at set i ≡ 0) → (k : ℕ) → 1 ≤ k → k < t + 1
+    → contains set k ≡ false
 clear_below set t l h zero low high = absurd (omega arith)
 clear_below set t l h (suc k) low high = clear_at set k (omega arith) (h k (omega arith))
 
-least-at : (set t : ℕ) → t < 31 → bit_at set t ≡ 1 → ((i : ℕ) → i < t → bit_at set i ≡ 0) → least_from 31 1 set ≡ Some (t + 1)
+least-at : (set t : ℕ) → t < 31 → bit_at set t ≡ 1 → ((i : ℕ) → i < t → bit_at set i ≡ 0)
+    → least_from 31 1 set ≡ Some (t + 1)
 least-at set t l one lower =
     let next : suc t ≡ t + 1 = omega arith in
-    least_from-some 31 1 set (t + 1) (omega arith) (omega arith) (ap (contains set) (sym next) ∙ set_at set t l one) (clear_below set t l lower)
+    least_from-some 31 1 set (t + 1) (omega arith) (omega arith) (ap (contains set) (sym next) ∙ set_at set t l one)
+        (clear_below set t l lower)
 
 below_31 : (set : ℕ) → set < 2 ^ 31 → (t : ℕ) → t < 32 → bit_at set t ≡ 1 → t < 31
 below_31 set fits t l one =
@@ -81,4 +88,5 @@ pub least-lowest : (set : ℕ) → 0 < set → set < 2 ^ 31 → least set ≡ So
 unfolding least
 least-lowest set some fits =
     let lowest = bit_at-trailing_zeros w32 set some (omega arith) in
-    least-at set (trailing_zeros w32 set) (below_31 set fits (trailing_zeros w32 set) lowest.0 lowest.1) lowest.1 lowest.2
+    least-at set (trailing_zeros w32 set)
+        (below_31 set fits (trailing_zeros w32 set) lowest.0 lowest.1) lowest.1 lowest.2

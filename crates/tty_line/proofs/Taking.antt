@@ -1,5 +1,6 @@
 -- What a read takes, as the first done line has more bytes than it takes, or no more.
-use Rattle.std.proofs.Common.{◌≡◌, ℕ, ◌<◌, ◌≤◌, min, List, [], ◌∷◌, length, take, drop, slice_index_or, slice_set, Some, refl, arith, ap, ◌∙◌, length-drop}
+use Rattle.std.proofs.Common.{◌≡◌, ℕ, ◌<◌, ◌≤◌, min, List, [], ◌∷◌, length, take, drop, slice_index_or, slice_set, Some}
+use Rattle.std.proofs.Common.{refl, arith, ap, ◌∙◌, length-drop}
 use Rattle.std.specs.Prelude.{remove}
 use Rattle.std.proofs.lemmas.List.{drop_all, take_all}
 use Rattle.tty_spec.specs.Terminal.{Terminal}

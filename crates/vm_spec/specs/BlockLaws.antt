@@ -4,7 +4,8 @@ use Rattle.std.proofs.Common.{refl, sym, ◌∙◌, ap, arith, inl, inr}
 use Rattle.std.proofs.lemmas.Bool.{cases_order, both_ways, cond_both}
 use Rattle.w32_base.specs.declared.instr.Instr.{Instr}
 use Rattle.vm_spec.specs.Image.{Image}
-use Rattle.vm_spec.specs.Step.{Upcoming, LocalInstruction, CallInstruction, ImageFault, upcoming, local_step, block_of, IsBlock}
+use Rattle.vm_spec.specs.Step.{Upcoming, LocalInstruction, CallInstruction, ImageFault, upcoming, local_step, block_of}
+use Rattle.vm_spec.specs.Step.{IsBlock}
 use Rattle.vm_spec.specs.Block.{is_local_next, block_within, block_length, block_image}
 
 -- the first instruction of one more than n stands before the n others

@@ -1,5 +1,6 @@
 -- When the next instruction isn't carried out, since it is an image fault.
-use Rattle.std.specs.Prelude.{ℕ, ◌+◌, min, ℤ, pos, negsuc, Bool, true, false, ◌||◌, ◌&&◌, not, nat_lt, List, length, Option, Some, None, slice_get}
+use Rattle.std.specs.Prelude.{ℕ, ◌+◌, min, ℤ, pos, negsuc, Bool, true, false, ◌||◌, ◌&&◌, not, nat_lt, List, length}
+use Rattle.std.specs.Prelude.{Option, Some, None, slice_get}
 use Rattle.w32_base.specs.declared.instr.Instr.{Instr}
 use Rattle.w32_base.specs.declared.instr.Instr.TheVariants as instr
 use Rattle.vm_spec.specs.Image.{Image, in_use, place_of, value_of}

@@ -7,7 +7,8 @@ use Rattle.std.proofs.lemmas.List.{length-take-le, drop_at, append_assoc, drop-d
 use Rattle.std.proofs.lemmas.Nat.{from_le_bytes-to_le_bytes_4}
 use Rattle.std.proofs.lemmas.Bool.{leb-true, le-leb}
 use Rattle.vm_spec.specs.Image.{Image, SameSizes, word_at, with_word, at_place, in_use, place_of, register_of}
-use Rattle.vm_spec.specs.Frames.{has_frame_room, frame_bytes, stack_with_frame, with_frame, has_frame, frame_mask, data_from_frame, without_frame}
+use Rattle.vm_spec.specs.Frames.{has_frame_room, frame_bytes, stack_with_frame, with_frame, has_frame, frame_mask}
+use Rattle.vm_spec.specs.Frames.{data_from_frame, without_frame}
 use Rattle.vm_spec.specs.WordLaws.{length-with_word, word_at-with_word, word_at-with_word_below}
 use Rattle.vm_spec.specs.SizeLaws.{SameSizes-trans, SameSizes-word}
 
@@ -31,7 +32,8 @@ pub SameSizes-with_frame : (image : Image) (mask handler : ℕ) → length image
     SameSizes image (with_frame image mask handler)
 SameSizes-with_frame image mask handler h fits =
     let pushed : Image = record image { stack = stack_with_frame image mask } in
-    let same : SameSizes image pushed = record { dat = refl; heap = refl; stack = length-stack_with_frame image mask h fits } in
+    let same : SameSizes image pushed =
+        record { dat = refl; heap = refl; stack = length-stack_with_frame image mask h fits } in
     let placed : SameSizes pushed (at_place pushed handler) = SameSizes-word pushed 32 handler h (omega arith) in
     SameSizes-trans same
     (SameSizes-trans placed
@@ -85,7 +87,8 @@ has_frame-with_frame image mask handler h fits =
 
 -- the bytes of the stack from the frame on
 drop-stack_with_frame : (image : Image) (mask : ℕ) → has_frame_room image ≡ true →
-    drop (in_use image) (stack_with_frame image mask) ≡ frame_bytes image.dat mask ++ drop (in_use image + 40) image.stack
+    drop (in_use image) (stack_with_frame image mask) ≡ frame_bytes image.dat mask ++
+        drop (in_use image + 40) image.stack
 unfolding stack_with_frame
 drop-stack_with_frame image mask fits =
     let r = room image fits in

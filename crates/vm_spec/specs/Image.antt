@@ -67,7 +67,8 @@ abbrev pub value_of : Image → Operand → ℤ
 value_of image (Register r) = register_of image r
 value_of image (Number n) = n
 
--- the image that a call leaves to its process: r0, and r1 where it is given, and the next instruction is the following one
+-- the image that a call leaves to its process: r0, and r1 where it is given, and the next instruction is the following
+-- one
 abbrev pub with_result : Image → ℤ → Option ℤ → Image
 with_result image r0 None = with_register (moved_on image) 0 r0
 with_result image r0 (Some r1) = with_register (with_register (moved_on image) 0 r0) 1 r1

@@ -1,13 +1,15 @@
 -- The regions of an image keep their sizes through a local instruction, a block, a call's result and a frame.
 -- The data region has 64 bytes throughout.
-use Rattle.std.specs.Prelude.{◌≡◌, ℕ, ◌+◌, ◌-◌, ◌*◌, ◌≤◌, ◌<◌, ℤ, pos, ◌+ℤ◌, Bool, true, false, nat_lt, if◌then◌else◌, length, slice_index, Option, Some, None}
+use Rattle.std.specs.Prelude.{◌≡◌, ℕ, ◌+◌, ◌-◌, ◌*◌, ◌≤◌, ◌<◌, ℤ, pos, ◌+ℤ◌, Bool, true, false, nat_lt, if◌then◌else◌}
+use Rattle.std.specs.Prelude.{length, slice_index, Option, Some, None}
 use Rattle.std.specs.Int.{w32, int_wrap, cast_signed, cast_unsigned}
 use Rattle.std.proofs.Common.{refl, ◌∙◌, arith}
 use Rattle.std.proofs.lemmas.List.{length-set}
 use Rattle.std.proofs.lemmas.Bool.{ltb-true, ltb-false, cond_both}
 use Rattle.w32_base.specs.declared.instr.Instr.{Instr}
 use Rattle.w32_base.specs.declared.instr.Instr.TheVariants as instr
-use Rattle.vm_spec.specs.Image.{Image, SameSizes, with_word, with_register, at_place, moved_on, in_use, with_in_use, place_of, with_result, value_of, register_of, word_at}
+use Rattle.vm_spec.specs.Image.{Image, SameSizes, with_word, with_register, at_place, moved_on, in_use, with_in_use}
+use Rattle.vm_spec.specs.Image.{place_of, with_result, value_of, register_of, word_at}
 use Rattle.vm_spec.specs.Faults.{instr_faults}
 use Rattle.vm_spec.specs.Step.{after_local, address_of, low_byte, is_zero, is_below_zero}
 use Rattle.vm_spec.specs.WordLaws.{length-with_word}

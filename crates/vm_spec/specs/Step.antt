@@ -1,9 +1,11 @@
 -- What is next in a program, and what local instructions do to the image.
-use Rattle.std.specs.Prelude.{◌≡◌, ◌≢◌, ℕ, zero, suc, ◌+◌, ◌-◌, ◌%◌, ◌<◌, ◌≤◌, ℤ, pos, negsuc, ◌+ℤ◌, Bool, true, false, nat_eq, if◌then◌else◌, List, slice_set, slice_index, slice_get, Option, Some, None}
+use Rattle.std.specs.Prelude.{◌≡◌, ◌≢◌, ℕ, zero, suc, ◌+◌, ◌-◌, ◌%◌, ◌<◌, ◌≤◌, ℤ, pos, negsuc, ◌+ℤ◌, Bool, true, false}
+use Rattle.std.specs.Prelude.{nat_eq, if◌then◌else◌, List, slice_set, slice_index, slice_get, Option, Some, None}
 use Rattle.std.specs.Int.{w32, int_wrap, cast_signed, cast_unsigned}
 use Rattle.w32_base.specs.declared.instr.Instr.{Instr}
 use Rattle.w32_base.specs.declared.instr.Instr.TheVariants as instr
-use Rattle.vm_spec.specs.Image.{Image, word_at, with_word, register_of, with_register, place_of, at_place, moved_on, in_use, with_in_use, value_of}
+use Rattle.vm_spec.specs.Image.{Image, word_at, with_word, register_of, with_register, place_of, at_place, moved_on}
+use Rattle.vm_spec.specs.Image.{in_use, with_in_use, value_of}
 use Rattle.vm_spec.specs.Faults.{faults}
 
 -- the instructions that a process carries out by itself, on its image alone
@@ -57,7 +59,8 @@ after_local (instr.Add r v) image =
 after_local (instr.Load r address) image =
     with_register (moved_on image) r (pos (slice_index image.heap (address_of (value_of image address))))
 after_local (instr.Store address v) image =
-    record (moved_on image) { heap = slice_set image.heap (address_of (value_of image address)) (low_byte (value_of image v)) }
+    record (moved_on image) { heap =
+        slice_set image.heap (address_of (value_of image address)) (low_byte (value_of image v)) }
 after_local (instr.Push v) image =
     with_in_use
     (record (moved_on image) { stack = with_word image.stack (in_use image) (cast_unsigned w32 (value_of image v)) })

@@ -1,5 +1,6 @@
 -- What is known of the next instruction where it is a local one, and the sizes after local instructions.
-use Rattle.std.specs.Prelude.{◌≡◌, ℕ, zero, suc, ◌≤◌, ◌<◌, true, false, IsTrue, nat_lt, List, length, slice_get, Option, Some, None}
+use Rattle.std.specs.Prelude.{◌≡◌, ℕ, zero, suc, ◌≤◌, ◌<◌, true, false, IsTrue, nat_lt, List, length, slice_get, Option}
+use Rattle.std.specs.Prelude.{Some, None}
 use Rattle.std.specs.List.{All}
 use Rattle.std.proofs.Common.{refl, sym, ◌∙◌, ap, arith, inl, inr}
 use Rattle.std.proofs.lemmas.Option.{slice_get_within, get_or_from_slice_get}
@@ -8,7 +9,8 @@ use Rattle.std.proofs.lemmas.Bool.{ltb-false, false≢true, cases_Bool, or_parts
 use Rattle.w32_base.specs.declared.instr.Instr.{Instr}
 use Rattle.vm_spec.specs.Image.{Image, SameSizes, in_use, place_of}
 use Rattle.vm_spec.specs.Faults.{instr_faults, faults_at, faults}
-use Rattle.vm_spec.specs.Step.{LocalInstruction, CallInstruction, ImageFault, is_local, upcoming_at, upcoming, after_local, after_local_at, local_step, block_of}
+use Rattle.vm_spec.specs.Step.{LocalInstruction, CallInstruction, ImageFault, is_local, upcoming_at, upcoming}
+use Rattle.vm_spec.specs.Step.{after_local, after_local_at, local_step, block_of}
 use Rattle.vm_spec.specs.Block.{is_local_next, block_length, block_image}
 use Rattle.vm_spec.specs.BlockLaws.{IsBlock-length}
 use Rattle.vm_spec.specs.SizeLaws.{writes_register, SameSizes-refl, SameSizes-trans, SameSizes-after_local}

@@ -26,4 +26,9 @@ pub returns : goal.returns
 unfolding frame_bytes
 returns c =
     last_four c.copy_from_slice.new.self c.copy_from_slice-2.new.self c.copy_from_slice.ensures.len
-    ∙ rw (c.copy_from_slice.ensures.after, c.copy_from_slice-2.ensures.after, c.as_slice.ensures, c.to_le_bytes.ensures) refl
+    ∙ rw (
+      c.copy_from_slice.ensures.after,
+      c.copy_from_slice-2.ensures.after,
+      c.as_slice.ensures,
+      c.to_le_bytes.ensures,
+    ) refl

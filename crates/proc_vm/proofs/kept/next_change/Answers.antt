@@ -16,7 +16,8 @@ returns-in-Some-clause-change c = λ local.
     let at : slice_get code (place_of image) ≡ Some c.in-Some.instr =
     ap (slice_get code) (sym c.next_place.ensures) ∙ sym c.get.ensures ∙ c.in-Some.is
     in
-    let fits : instr_faults c.in-Some.instr image ≡ false = ap (λ o. faults_at o image) (sym at ∙ found.1.at) ∙ found.1.carried_out in
+    let fits : instr_faults c.in-Some.instr image ≡ false = ap (λ o. faults_at o image) (sym at ∙ found.1.at) ∙
+    found.1.carried_out in
     rw at (c.place_before.ensures.change fits)
 
 pub returns-in-None-clause-change : goal.returns-in-None-clause-change

@@ -14,7 +14,8 @@ returns-in_ok-place-in-Store-clause-change c = λ f.
     let heap = c.args.own.now.heap in
     let byte = low_byte (value_of (image_of c.args.own.now) c.in-Store.field-1) in
     rw (c.in-Store.is, c.in_ok-place-in-Store.ensures.0, c.as_slice.ensures)
-    (ap (λ xs. let k : Contents = record { heap = xs; stack = c.args.own.now.stack } in k) (byte_back heap c.in_ok-place-in-Store.place byte))
+    (ap (λ xs. let k : Contents = record { heap = xs; stack = c.args.own.now.stack } in k)
+    (byte_back heap c.in_ok-place-in-Store.place byte))
 
 pub returns-in-Push-clause-change : goal.returns-in-Push-clause-change
 returns-in-Push-clause-change c = λ f.

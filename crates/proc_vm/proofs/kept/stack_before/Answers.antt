@@ -9,4 +9,5 @@ returns-clause-change c = λ number h.
     let own = c.args.own.now in
     let four : c.stack_in_use-used.result + 4 - c.stack_in_use-used.result ≡ 4 = omega arith in
     rw (c.copy_from_slice.ensures.after, four, c.as_slice-stack.ensures, c.stack_in_use-used.ensures)
-    (ap (λ xs. let k : Contents = record { heap = own.heap; stack = xs } in k) (word_back own.stack (in_use (image_of own)) number h))
+    (ap (λ xs. let k : Contents = record { heap = own.heap; stack = xs } in k)
+    (word_back own.stack (in_use (image_of own)) number h))
