@@ -1,5 +1,6 @@
 -- Known bytes over several calls.
-use Rattle.std.proofs.Common.{◌≡◌, ℕ, ◌+◌, ◌-◌, ◌^◌, ◌≤◌, min, max, List, [], ◌++◌, length, take, drop, Option, None, Some, IfSome, sym, ◌∙◌, ap, arith, append_assoc, length-append, subst}
+use Rattle.std.proofs.Common.{◌≡◌, ℕ, ◌+◌, ◌-◌, ◌^◌, ◌≤◌, min, max, List, [], ◌++◌, length, take, drop, Option, None}
+use Rattle.std.proofs.Common.{Some, IfSome, sym, ◌∙◌, ap, arith, append_assoc, length-append, subst}
 use Rattle.std.proofs.lemmas.List.{length-take-le, drop_at, nil_from_length}
 use Rattle.std.proofs.Math.Seq.{take-add}
 use Rattle.std.specs.Io.KnownBytes.{Appends, Consumes}
@@ -15,14 +16,16 @@ Appends-append (Some p) (Some q) (Some r) xs ys first second =
     second ∙ ap (λ (l : List ℕ). l ++ ys) first ∙ append_assoc p xs ys
 
 -- the first i bytes, and then n more
-pub Appends-more : (a b c : Option (List ℕ)) (i n : ℕ) (piece rest : List ℕ) → rest ≡ drop i piece → Appends a b (take i piece) → Appends b c (take n rest) → Appends a c (take (i + n) piece)
+pub Appends-more : (a b c : Option (List ℕ)) (i n : ℕ) (piece rest : List ℕ) → rest ≡ drop i piece
+    → Appends a b (take i piece) → Appends b c (take n rest) → Appends a c (take (i + n) piece)
 Appends-more a b c i n piece rest is first second =
     subst (λ (l : List ℕ). Appends a c l)
     (ap (λ (l : List ℕ). take i piece ++ take n l) is ∙ sym (take-add i n piece))
     (Appends-append a b c (take i piece) (take n rest) first second)
 
 -- what two reads consume
-pub Consumes-append : (a b c : Option (List ℕ)) (xs ys : List ℕ) → Consumes a b xs → Consumes b c ys → Consumes a c (xs ++ ys)
+pub Consumes-append : (a b c : Option (List ℕ)) (xs ys : List ℕ) → Consumes a b xs → Consumes b c ys
+    → Consumes a c (xs ++ ys)
 Consumes-append None b c xs ys first second = tt
 Consumes-append (Some p) None c xs ys first second = absurd first
 Consumes-append (Some p) (Some q) None xs ys first second = absurd second
@@ -30,7 +33,8 @@ Consumes-append (Some p) (Some q) (Some r) xs ys first second =
     first ∙ ap (λ (l : List ℕ). xs ++ l) second ∙ sym (append_assoc xs ys r)
 
 -- bytes that are consumed are the first, and they are gone
-gone : (a c : Option (List ℕ)) (xs : List ℕ) (n : ℕ) → length xs ≡ n → Consumes a c xs → IfSome a (λ left. (n ≤ length left) × (c ≡ Some (drop n left)))
+gone : (a c : Option (List ℕ)) (xs : List ℕ) (n : ℕ) → length xs ≡ n → Consumes a c xs
+    → IfSome a (λ left. (n ≤ length left) × (c ≡ Some (drop n left)))
 gone None c xs n size consumed = tt
 gone (Some p) None xs n size consumed = absurd consumed
 gone (Some p) (Some r) xs n size consumed = (
@@ -39,17 +43,20 @@ gone (Some p) (Some r) xs n size consumed = (
 )
 
 -- the bytes read so far, and then n more
-pub Draws-more : (a b c : Option (List ℕ)) (xs buf : List ℕ) (had n all g0 g1 g2 : ℕ) → length xs ≡ had → Consumes a b xs → Consumes b c (take n buf) → n ≤ length buf
+pub Draws-more : (a b c : Option (List ℕ)) (xs buf : List ℕ) (had n all g0 g1 g2 : ℕ) → length xs ≡ had
+    → Consumes a b xs → Consumes b c (take n buf) → n ≤ length buf
     → g1 ≡ min (g0 + had) (max g0 (2 ^ 64 - 1)) → RoseBy n g1 g2 → g0 ≤ 2 ^ 64 - 1 → all ≡ had + n → Draws all a c g0 g2
 Draws-more a b c xs buf had n all g0 g1 g2 counted first second within so_far more in_range sum =
-    let size : length (xs ++ take n buf) ≡ all = omega (arith, length-append xs (take n buf), length-take-le n buf within) in
+    let size : length (xs ++ take n buf) ≡ all =
+    omega (arith, length-append xs (take n buf), length-take-le n buf within) in
     record {
       bytes = gone a c (xs ++ take n buf) all size (Consumes-append a b c xs (take n buf) first second);
       count = omega arith;
     }
 
 -- nothing is left behind the last bytes
-pub none_left : (a b c : Option (List ℕ)) (xs ys : List ℕ) → Consumes a b xs → Consumes b c ys → IfSome b (λ left. left ≡ []) → IfSome a (λ _. c ≡ Some [])
+pub none_left : (a b c : Option (List ℕ)) (xs ys : List ℕ) → Consumes a b xs → Consumes b c ys
+    → IfSome b (λ left. left ≡ []) → IfSome a (λ _. c ≡ Some [])
 none_left None b c xs ys first second end = tt
 none_left (Some p) None c xs ys first second end = absurd first
 none_left (Some p) (Some q) None xs ys first second end = absurd second

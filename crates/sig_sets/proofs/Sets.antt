@@ -27,7 +27,7 @@ contains-at : (set k b : ℕ) → k < 31 → bit_at set k ≡ b → contains set
 contains-at set k b l e =
     let less : suc k - 1 ≡ k = omega arith in
     let one : only (suc k) ≡ 2 ^ k = only-is (suc k) (is_signal-from (suc k) (omega arith) (omega arith)) ∙
-        ap (λ n. 2 ^ n) less in
+    ap (λ n. 2 ^ n) less in
     let bit : bit_and set (only (suc k)) ≡ b * 2 ^ k = ap (bit_and set) one ∙ and_pow set k ∙ ap (λ x. x * 2 ^ k) e in
     ap (λ n. not (nat_eq n 0)) bit
 
@@ -74,7 +74,7 @@ least-at : (set t : ℕ) → t < 31 → bit_at set t ≡ 1 → ((i : ℕ) → i 
 least-at set t l one lower =
     let next : suc t ≡ t + 1 = omega arith in
     least_from-some 31 1 set (t + 1) (omega arith) (omega arith) (ap (contains set) (sym next) ∙ set_at set t l one)
-        (clear_below set t l lower)
+    (clear_below set t l lower)
 
 below_31 : (set : ℕ) → set < 2 ^ 31 → (t : ℕ) → t < 32 → bit_at set t ≡ 1 → t < 31
 below_31 set fits t l one =
@@ -89,4 +89,4 @@ unfolding least
 least-lowest set some fits =
     let lowest = bit_at-trailing_zeros w32 set some (omega arith) in
     least-at set (trailing_zeros w32 set)
-        (below_31 set fits (trailing_zeros w32 set) lowest.0 lowest.1) lowest.1 lowest.2
+    (below_31 set fits (trailing_zeros w32 set) lowest.0 lowest.1) lowest.1 lowest.2

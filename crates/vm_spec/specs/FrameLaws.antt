@@ -33,7 +33,7 @@ pub SameSizes-with_frame : (image : Image) (mask handler : ℕ) → length image
 SameSizes-with_frame image mask handler h fits =
     let pushed : Image = record image { stack = stack_with_frame image mask } in
     let same : SameSizes image pushed =
-        record { dat = refl; heap = refl; stack = length-stack_with_frame image mask h fits } in
+    record { dat = refl; heap = refl; stack = length-stack_with_frame image mask h fits } in
     let placed : SameSizes pushed (at_place pushed handler) = SameSizes-word pushed 32 handler h (omega arith) in
     SameSizes-trans same
     (SameSizes-trans placed
@@ -88,7 +88,7 @@ has_frame-with_frame image mask handler h fits =
 -- the bytes of the stack from the frame on
 drop-stack_with_frame : (image : Image) (mask : ℕ) → has_frame_room image ≡ true →
     drop (in_use image) (stack_with_frame image mask) ≡ frame_bytes image.dat mask ++
-        drop (in_use image + 40) image.stack
+    drop (in_use image + 40) image.stack
 unfolding stack_with_frame
 drop-stack_with_frame image mask fits =
     let r = room image fits in

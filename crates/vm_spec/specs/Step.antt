@@ -59,8 +59,10 @@ after_local (instr.Add r v) image =
 after_local (instr.Load r address) image =
     with_register (moved_on image) r (pos (slice_index image.heap (address_of (value_of image address))))
 after_local (instr.Store address v) image =
-    record (moved_on image) { heap =
-        slice_set image.heap (address_of (value_of image address)) (low_byte (value_of image v)) }
+    record (moved_on image) {
+      heap =
+          slice_set image.heap (address_of (value_of image address)) (low_byte (value_of image v));
+    }
 after_local (instr.Push v) image =
     with_in_use
     (record (moved_on image) { stack = with_word image.stack (in_use image) (cast_unsigned w32 (value_of image v)) })

@@ -1,5 +1,6 @@
 -- Laws of a list of handles, for the crates that keep several.
-use Rattle.std.proofs.Common.{◌≡◌, ◌≢◌, inl, inr, ℕ, suc, ◌+◌, ◌≤◌, ◌<◌, Bool, true, false, if◌then◌else◌, nat_eq, nat_lt, List, [], ◌∷◌, length, Some, None, refl, sym, ap, ◌∙◌, arith}
+use Rattle.std.proofs.Common.{◌≡◌, ◌≢◌, inl, inr, ℕ, suc, ◌+◌, ◌≤◌, ◌<◌, Bool, true, false, if◌then◌else◌, nat_eq}
+use Rattle.std.proofs.Common.{nat_lt, List, [], ◌∷◌, length, Some, None, refl, sym, ap, ◌∙◌, arith}
 use Rattle.std.proofs.lemmas.Bool.{cases_eq, cases_lt}
 use Rattle.std.proofs.lemmas.Bool.Decides.{nat_tests}
 use Rattle.win32_spec.specs.Handles.{Handle, handle_of, with_handle, without_handle, holders_of, AreRisingFrom}
@@ -18,7 +19,8 @@ not_before : (n m : ℕ) → m ≤ n → nat_lt n m ≡ false
 not_before n m l = grind (arith, nat_tests)
 
 -- the handle that is added names its object
-pub handle_of-with_same : (hs : List Handle) (h o : ℕ) → handle_of hs h ≡ None → handle_of (with_handle hs h o) h ≡ Some o
+pub handle_of-with_same : (hs : List Handle) (h o : ℕ) → handle_of hs h ≡ None
+    → handle_of (with_handle hs h o) h ≡ Some o
 handle_of-with_same [] h o free = let s = same h h refl in rw s
 handle_of-with_same (p ∷ hs) h o free =
     elim (cases_lt h p.number) [
@@ -33,7 +35,8 @@ handle_of-with_same (p ∷ hs) h o free =
     ]
 
 -- and every other one what it named
-pub handle_of-with_other : (hs : List Handle) (h o other : ℕ) → other ≢ h → handle_of (with_handle hs h o) other ≡ handle_of hs other
+pub handle_of-with_other : (hs : List Handle) (h o other : ℕ) → other ≢ h
+    → handle_of (with_handle hs h o) other ≡ handle_of hs other
 handle_of-with_other [] h o other d = let t = differs h other (λ e. d (sym e)) in rw t
 handle_of-with_other (p ∷ hs) h o other d =
     elim (cases_lt h p.number) [
@@ -51,7 +54,8 @@ handle_of-without_same (p ∷ hs) h =
     ]
 
 -- and every other one what it named
-pub handle_of-without_other : (hs : List Handle) (h other : ℕ) → other ≢ h → handle_of (without_handle hs h) other ≡ handle_of hs other
+pub handle_of-without_other : (hs : List Handle) (h other : ℕ) → other ≢ h
+    → handle_of (without_handle hs h) other ≡ handle_of hs other
 handle_of-without_other [] h other d = refl
 handle_of-without_other (p ∷ hs) h other d =
     elim (cases_eq p.number h) [
@@ -72,11 +76,13 @@ without_handle-absent (p ∷ hs) h free =
     ]
 
 -- a handle that is opened and closed again leaves the table as it was
-pub without-with_handle : (hs : List Handle) (h o : ℕ) → handle_of hs h ≡ None → without_handle (with_handle hs h o) h ≡ hs
+pub without-with_handle : (hs : List Handle) (h o : ℕ) → handle_of hs h ≡ None
+    → without_handle (with_handle hs h o) h ≡ hs
 without-with_handle [] h o free = let s = same h h refl in rw s
 without-with_handle (p ∷ hs) h o free =
     elim (cases_lt h p.number) [
-      | inl l ↦ let t = before h p.number l in let s = same h h refl in rw (t, s) (without_handle-absent (p ∷ hs) h free)
+      | inl l ↦ let t = before h p.number l in let s =
+          same h h refl in rw (t, s) (without_handle-absent (p ∷ hs) h free)
       | inr l ↦ elim (cases_eq p.number h) [
         | inl e ↦ let s = same p.number h e in absurd (let found : Some p.names ≡ None = rw s at free in cc)
         | inr d ↦
@@ -87,7 +93,8 @@ without-with_handle (p ∷ hs) h o free =
     ]
 
 -- a handle more is a holder more of its object
-pub holders_of-with : (hs : List Handle) (h o q : ℕ) → holders_of (with_handle hs h o) q ≡ holders_of hs q + (if nat_eq o q then 1 else 0)
+pub holders_of-with : (hs : List Handle) (h o q : ℕ)
+    → holders_of (with_handle hs h o) q ≡ holders_of hs q + (if nat_eq o q then 1 else 0)
 holders_of-with [] h o q = omega arith
 holders_of-with (p ∷ hs) h o q =
     elim (cases_lt h p.number) [
@@ -103,7 +110,8 @@ handle_of-below low (p ∷ hs) h rising l =
     rw s (handle_of-below (p.number + 1) hs h rising.2 (omega (arith, rising.0)))
 
 -- a handle less is a holder less of its object
-pub holders_of-without : (low : ℕ) (hs : List Handle) (h o q : ℕ) → AreRisingFrom low hs → handle_of hs h ≡ Some o → holders_of (without_handle hs h) q + (if nat_eq o q then 1 else 0) ≡ holders_of hs q
+pub holders_of-without : (low : ℕ) (hs : List Handle) (h o q : ℕ) → AreRisingFrom low hs → handle_of hs h ≡ Some o
+    → holders_of (without_handle hs h) q + (if nat_eq o q then 1 else 0) ≡ holders_of hs q
 holders_of-without low [] h o q rising named = absurd (cc)
 holders_of-without low (p ∷ hs) h o q rising named =
     elim (cases_eq p.number h) [
@@ -121,7 +129,8 @@ holders_of-without low (p ∷ hs) h o q rising named =
 -- there are no more handles than numbers
 pub length-rising : (low : ℕ) (hs : List Handle) → low ≤ 65 → AreRisingFrom low hs → length hs + low ≤ 65
 length-rising low [] l rising = omega arith
-length-rising low (p ∷ hs) l rising = omega (arith, rising.0, rising.1, length-rising (p.number + 1) hs (omega (arith, rising.1)) rising.2)
+length-rising low (p ∷ hs) l rising =
+    omega (arith, rising.0, rising.1, length-rising (p.number + 1) hs (omega (arith, rising.1)) rising.2)
 
 -- nor more holders than handles
 pub holders_of-le : (hs : List Handle) (q : ℕ) → holders_of hs q ≤ length hs

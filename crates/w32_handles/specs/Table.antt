@@ -1,5 +1,6 @@
 -- What a contract sees of a table of objects.
-use Rattle.std.specs.Prelude.{◌≡◌, ◌≢◌, ℕ, ◌+◌, ◌-◌, ◌/◌, List, Option, Some, None, refl, nat_lt, if◌then◌else◌, slice_index_or, slice_set}
+use Rattle.std.specs.Prelude.{◌≡◌, ◌≢◌, ℕ, ◌+◌, ◌-◌, ◌/◌, List, Option, Some, None, refl, nat_lt, if◌then◌else◌}
+use Rattle.std.specs.Prelude.{slice_index_or, slice_set}
 use Rattle.std.specs.Coded.{Coded, code_by, coded×, coded_ℕ, coded_list, coded_option}
 
 -- an object, and how many holders it has
@@ -15,7 +16,9 @@ pub record Table (K : Type 0) : Type 0 where
 -- both are stored as pairs
 abbrev pub kept_code : {K : Type 0} → Coded K → Coded (Kept K)
 kept_code {K} code =
-    code_by (K × ℕ) (coded× code coded_ℕ) (λ k. (k.object, k.holders)) (λ p. record { object = p.0; holders = p.1 }) (λ _. refl)
+    code_by (K
+    × ℕ) (coded× code coded_ℕ) (λ k. (k.object, k.holders)) (λ p. record { object = p.0; holders = p.1 })
+    (λ _. refl)
 
 abbrev pub table_code : {K : Type 0} → Coded K → Coded (Table K)
 table_code {K} code =

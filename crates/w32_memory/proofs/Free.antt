@@ -1,14 +1,18 @@
 -- Free ranges of pages.
-use Rattle.std.proofs.Common.{◌≡◌, ℕ, ◌+◌, ◌-◌, ◌<◌, ◌≤◌, List, Bool, true, false, length, get_or, take, drop, All, IsTrue, ◌↔◌, subst, ap, sym, ◌∙◌, inl, inr, arith, length-drop, length-take-le, get_or-drop, get_or-take}
+use Rattle.std.proofs.Common.{◌≡◌, ℕ, ◌+◌, ◌-◌, ◌<◌, ◌≤◌, List, Bool, true, false, length, get_or, take, drop, All}
+use Rattle.std.proofs.Common.{IsTrue, ◌↔◌, subst, ap, sym, ◌∙◌, inl, inr, arith, length-drop, length-take-le}
+use Rattle.std.proofs.Common.{get_or-drop, get_or-take}
 use Rattle.std.proofs.lemmas.Bool.{cases_lt}
 use Rattle.std.proofs.lemmas.List.{get_or_default}
 use Rattle.win32_spec.specs.Regions.{IsFreeRange}
 
 -- the pages of a range, taken out of the list of all pages
-length-pages : (taken : List Bool) (base size : ℕ) → length taken ≡ 1024 → base + size ≤ 1024 → length (take size (drop base taken)) ≡ size
+length-pages : (taken : List Bool) (base size : ℕ) → length taken ≡ 1024 → base + size ≤ 1024
+    → length (take size (drop base taken)) ≡ size
 length-pages taken base size room within = length-take-le size (drop base taken) (omega (arith, length-drop base taken))
 
-get_or-pages : (taken : List Bool) (base size k : ℕ) (d : Bool) → k < size → get_or (take size (drop base taken)) k d ≡ get_or taken (base + k) d
+get_or-pages : (taken : List Bool) (base size k : ℕ) (d : Bool) → k < size
+    → get_or (take size (drop base taken)) k d ≡ get_or taken (base + k) d
 get_or-pages taken base size k d below = get_or-take size (drop base taken) k d below ∙ get_or-drop base taken k d
 
 pub free_from_all : (taken : List Bool) (base size : ℕ) → length taken ≡ 1024 → base + size ≤ 1024 →
@@ -18,8 +22,10 @@ free_from_all taken base size room within all = record {
   free = λ page low high.
       let below : page - base < size = omega arith in
       let there : base + (page - base) ≡ page = omega arith in
-      let inside : page - base < length (take size (drop base taken)) = omega (arith, length-pages taken base size room within) in
-      ap (λ i. get_or taken i true) (sym there) ∙ sym (get_or-pages taken base size (page - base) true below) ∙ all (page - base) true inside;
+      let inside : page - base < length (take size (drop base taken)) =
+      omega (arith, length-pages taken base size room within) in
+      ap (λ i. get_or taken i true) (sym there) ∙ sym (get_or-pages taken base size (page - base) true below) ∙
+      all (page - base) true inside;
 }
 
 pub all_from_free : (taken : List Bool) (base size : ℕ) → length taken ≡ 1024 → IsFreeRange taken base size →
@@ -43,7 +49,8 @@ begins_later taken base size at_or_past none_here lower free = elim (cases_lt ba
 ]
 
 -- a test of the pages between two places tells whether the range that they make is free
-pub range_test : (taken : List Bool) (base size low high : ℕ) (answer : Bool) → length taken ≡ 1024 → low ≡ base → high ≡ base + size → high ≤ 1024 →
+pub range_test : (taken : List Bool) (base size low high : ℕ) (answer : Bool) → length taken ≡ 1024 → low ≡ base
+    → high ≡ base + size → high ≤ 1024 →
     (IsTrue answer ↔ All (λ page. page ≡ false) (take (high - low) (drop low taken))) →
     IsTrue answer ↔ IsFreeRange taken base size
 range_test taken base size low high answer room low_is high_is within tested =

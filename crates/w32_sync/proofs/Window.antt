@@ -1,5 +1,7 @@
 -- The part of a ring that holds a pipe's bytes, after a byte is put in or taken out.
-use Rattle.std.proofs.Common.{◌≡◌, ℕ, ◌+◌, ◌-◌, ◌%◌, ◌<◌, ◌≤◌, ◌⊎◌, List, [], ◌∷◌, ◌++◌, length, get_or, set, ap, ◌∙◌, ap₂, inl, inr, mod-eq_of_lt, arith, length-append, length-drop, length-set, length-take-le, get_or-drop, get_or-take}
+use Rattle.std.proofs.Common.{◌≡◌, ℕ, ◌+◌, ◌-◌, ◌%◌, ◌<◌, ◌≤◌, ◌⊎◌, List, [], ◌∷◌, ◌++◌, length, get_or, set, ap, ◌∙◌}
+use Rattle.std.proofs.Common.{ap₂, inl, inr, mod-eq_of_lt, arith, length-append, length-drop, length-set}
+use Rattle.std.proofs.Common.{length-take-le, get_or-drop, get_or-take}
 use native.Mathlib.Nat.{mod-eq-sub-mod, mod-add-mod}
 use Rattle.std.proofs.lemmas.List.{same_lists, drop_more, get_or_append_left, get_or-append_right}
 use Rattle.std.proofs.lemmas.Bool.{cases_lt}
@@ -16,15 +18,18 @@ mod_wraps_once N j below = elim (cases_lt j N) [
 module _ (N k n : ℕ) (xs : List ℕ) (start_in_range : k < N) (len_fits : n ≤ N) (length_xs : length xs ≡ N) where
   -- the window has n items
   pub length-window : length (window k n xs) ≡ n
-  length-window = length-take-le n _ (simp (length-append, length-drop) (omega (arith, length-take-le k xs (omega arith))))
+  length-window =
+      length-take-le n _ (simp (length-append, length-drop) (omega (arith, length-take-le k xs (omega arith))))
 
   -- item i of the window stands at place (k + i) % N, which is before the end of the ring or past it
   pub get_or-window : (i d : ℕ) → i < n → get_or (window k n xs) i d ≡ get_or xs ((k + i) % N) d
   get_or-window i d in_range =
       let length_tail = length-drop k xs in
       get_or-take n _ i d in_range ∙ elim (mod_wraps_once N (k + i) (omega arith)) [
-        | inl unwrapped ↦ get_or_append_left _ _ d i (omega arith) ∙ get_or-drop k xs i d ∙ ap (λ j. get_or xs j d) (omega arith)
-        | inr wrapped ↦ get_or-append_right _ _ (N - k) i d (omega arith) (omega arith) ∙ get_or-take k xs _ d (omega arith) ∙ ap (λ j. get_or xs j d) (omega arith)
+        | inl unwrapped ↦ get_or_append_left _ _ d i (omega arith) ∙ get_or-drop k xs i d ∙
+            ap (λ j. get_or xs j d) (omega arith)
+        | inr wrapped ↦ get_or-append_right _ _ (N - k) i d (omega arith) (omega arith) ∙
+            get_or-take k xs _ d (omega arith) ∙ ap (λ j. get_or xs j d) (omega arith)
       ]
 
 -- A second block, since these use the lemmas above at other windows.
@@ -52,7 +57,9 @@ module _ (N k n : ℕ) (xs : List ℕ) (start_in_range : k < N) (len_fits : n �
       let length_old = length-window N k n xs start_in_range len_fits length_xs in
       let length_new = length-window N ((k + 1) % N) (n - 1) xs next_in_range (omega arith) length_xs in
       let old_item = get_or-window N k n xs start_in_range len_fits length_xs in
-      drop_more _ 0 0 (omega arith) ∙ ap₂ ◌∷◌ (grind (arith, old_item 0 0, mod_wraps_once N k)) (same_lists _ _ (simp length-drop (omega arith)) (λ i d in_range. grind (
+      drop_more _ 0 0 (omega arith) ∙
+      ap₂ ◌∷◌ (grind (arith, old_item 0 0, mod_wraps_once N k))
+      (same_lists _ _ (simp length-drop (omega arith)) (λ i d in_range. grind (
         arith,
         length-drop 1 (window k n xs),
         get_or-drop 1 (window k n xs) i d,

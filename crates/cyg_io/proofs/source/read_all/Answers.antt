@@ -8,11 +8,17 @@ returns-then-count-eq0-clause-none_left g c =
 
 pub returns-then-count-allowed-clause-large : goal.returns-then-count-allowed-clause-large
 returns-then-count-allowed-clause-large g c _ =
-    Draws-more _ _ _ _ _ (vec_len c.reading.bytes) _ _ _ _ _ (search rules) c.reading.invariant.bytes c.in-Ok.ensures.bytes c.in-Ok.ensures.within c.reading.invariant.given c.in-Ok.ensures.gave (omega (arith, c.reading.invariant.given, c.read.ensures.given_stay)) (search rules)
+    Draws-more _ _ _ _ _ (vec_len c.reading.bytes) _ _ _ _ _
+    (search rules) c.reading.invariant.bytes c.in-Ok.ensures.bytes c.in-Ok.ensures.within
+    c.reading.invariant.given c.in-Ok.ensures.gave
+    (omega (arith, c.reading.invariant.given, c.read.ensures.given_stay)) (search rules)
 
 pub returns-then-is_err-clause-memory : goal.returns-then-is_err-clause-memory
 returns-then-is_err-clause-memory g c _ = (
   _,
   search rules,
-  Draws-more _ _ _ _ _ (vec_len c.reading.bytes) _ _ _ _ _ (search rules) c.reading.invariant.bytes c.in-Ok.ensures.bytes c.in-Ok.ensures.within c.reading.invariant.given c.in-Ok.ensures.gave (omega (arith, c.reading.invariant.given, c.read.ensures.given_stay)) refl,
+  Draws-more _ _ _ _ _ (vec_len c.reading.bytes) _ _ _ _ _
+      (search rules) c.reading.invariant.bytes c.in-Ok.ensures.bytes c.in-Ok.ensures.within
+      c.reading.invariant.given c.in-Ok.ensures.gave
+      (omega (arith, c.reading.invariant.given, c.read.ensures.given_stay)) refl,
 )

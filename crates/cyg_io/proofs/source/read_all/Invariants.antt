@@ -6,7 +6,8 @@ abbrev pub invariant-reading : goal.invariant-reading
 invariant-reading g l = record {
   few : vec_len l.bytes ≤ l.most;
   bytes : Consumes (g.S.Source.remaining l.initial.src) (g.S.Source.remaining l.src) l.bytes.items;
-  given : g.S.Source.given l.src ≡ min (g.S.Source.given l.initial.src + vec_len l.bytes) (max (g.S.Source.given l.initial.src) (2 ^ 64 - 1));
+  given : g.S.Source.given l.src ≡ min
+      (g.S.Source.given l.initial.src + vec_len l.bytes) (max (g.S.Source.given l.initial.src) (2 ^ 64 - 1));
   ends : g.S.Source.ends l.src ≡ g.S.Source.ends l.initial.src;
   faults : g.S.Source.faults l.initial.src ≤ g.S.Source.faults l.src;
 }

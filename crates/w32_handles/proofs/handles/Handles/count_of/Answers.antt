@@ -12,10 +12,12 @@ loop-place-preserved c =
     let within : at < length places = omega (arith, c.type_inv.place-items, c.loop-place-test.true) in
     elim c.if-eq.branch [
       | then-eq w ↦
-          let one : names_it c.args.o (get_or places at c.place-item.result) ≡ true = sym (names_it-eq _ _) ∙ sym c.eq.ensures ∙ w.if-eq.true in
+          let one : names_it c.args.o (get_or places at c.place-item.result) ≡ true = sym (names_it-eq _ _) ∙
+          sym c.eq.ensures ∙ w.if-eq.true in
           (omega arith, omega (arith, count_by_more_yes (names_it c.args.o) places at _ within one))
       | else-eq w ↦
-          let none : names_it c.args.o (get_or places at c.place-item.result) ≡ false = sym (names_it-eq _ _) ∙ sym c.eq.ensures ∙ w.if-eq.false in
+          let none : names_it c.args.o (get_or places at c.place-item.result) ≡ false = sym (names_it-eq _ _) ∙
+          sym c.eq.ensures ∙ w.if-eq.false in
           (omega arith, omega (arith, count_by_more_no (names_it c.args.o) places at _ within none))
     ]
 

@@ -4,7 +4,8 @@ use Rattle.w32_handles.proofs.handles.Handles.get.Goals as goal
 
 pub returns-clause-named : goal.returns-clause-named
 returns-clause-named c =
-    sym (named_at c.self.inside.places _ c.self.view_is c.self.invariant _ _ _ _ c.place_of.ensures.place c.place_of.ensures.range refl)
+    sym (named_at c.self.inside.places _ c.self.view_is c.self.invariant _ _ _ _ c.place_of.ensures.place
+    c.place_of.ensures.range refl)
 
 pub returns-clause-rising : goal.returns-clause-rising
 returns-clause-rising c = rising_now c.self.inside.places _ c.self.view_is c.self.invariant
