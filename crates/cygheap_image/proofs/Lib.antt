@@ -1,0 +1,10 @@
+pub mod Seams
+pub mod Legal
+pub mod Parts
+pub mod Writes
+pub mod ChildWrites
+pub mod Filled
+pub mod Passed
+pub mod Dropped
+pub mod Scratch
+pub mod ReadWhole

@@ -1,0 +1,13 @@
+use Rattle.std.proofs.Common.{◌∙◌, arith}
+use Rattle.cygheap_image.specs.FieldLaws.{heap_size}
+use Rattle.cygheap_image.proofs.ChildWrites.{children_put, children_kept}
+use Rattle.cygheap_image.proofs.writers.clear_children.Goals as goal
+
+pub put-requires : goal.put-requires
+put-requires c = omega (arith, heap_size c.args.bytes.now c.requires)
+
+pub returns-clause-value : goal.returns-clause-value
+returns-clause-value c = c.put.ensures.value ∙ children_put c.args.bytes.now c.requires
+
+pub returns-clause-layout : goal.returns-clause-layout
+returns-clause-layout c = children_kept c.args.bytes.now _ c.requires (returns-clause-value c)

@@ -1,0 +1,5 @@
+pub mod Places
+pub mod Table
+pub mod Sound
+pub mod Lends
+pub mod Processes

@@ -1,0 +1,11 @@
+//! The processes: which of them live in which slots, how often their threads are suspended, and with which codes the
+//! others ended.
+#![tactic(auto)]
+
+mod kept;
+mod processes;
+mod regions;
+mod seat;
+
+pub use processes::{MOST_KEPT, NoSlot, Processes};
+pub use regions::Regions;
