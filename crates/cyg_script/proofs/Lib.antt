@@ -1,0 +1,11 @@
+pub mod Pieces
+pub mod Values
+pub mod Forms
+pub mod Choices
+pub mod Masks
+pub mod Actions
+pub mod Arms
+pub mod Prints
+pub mod Steps
+pub mod TextLines
+pub mod Writes
