@@ -254,3 +254,8 @@ image_is_ignored p q o n x s r a other g =
       own = ap (λ y. with_image_of y x) same ∙ sym (other_own code p.slot p.thread p.step (with_image_of o x) r other);
       event = g.event ∙ alike.event;
     }
+
+-- one part begins a thread of a slot
+pub is_alone : (p q : ThreadPart) → p.step ≡ step.Start → q.step ≡ step.Start → p.slot ≡ q.slot
+    → p.thread ≡ q.thread → p ≡ q
+is_alone p q starts begins slot thread = cc (starts, begins, slot, thread)

@@ -7,11 +7,9 @@ ghost use Rattle.cyg_io.specs.States.{next_call, IsRefused};
 use crate::sink::{Sink, WriteFailed};
 use crate::source::{ReadFailed, Source};
 use crate::supply::Supply;
-use std::alloc::{AllocError, Global};
+use std::alloc::Global;
 use std::marker::Model;
-
-/// Want of memory.
-pub type Memory = AllocError;
+use w32_base::Memory;
 
 // Whether the call of this number is to fail.
 fn is_to_fail(fails: &[u32], number: u64) -> bool

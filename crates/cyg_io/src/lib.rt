@@ -12,10 +12,11 @@ mod supply;
 
 pub use clean::{CleanSink, CleanSource};
 pub use gate::{Gate, OpenGate, Place};
-pub use in_memory::{MemSink, MemSource, Memory};
+pub use in_memory::{MemSink, MemSource};
 pub use over_std::{StdSink, StdSource};
 pub use sink::{Sink, WriteFailed, write_all};
 pub use source::{ReadAllFault, ReadFailed, Source, read_all};
+pub use w32_base::Memory;
 
 #[cfg(test)]
 mod tests;

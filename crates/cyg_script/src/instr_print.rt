@@ -9,8 +9,8 @@ use crate::line_print::{
     with_operand_word, with_operands, with_register, with_register_operand, with_restart,
     with_word_operand,
 };
-use std::alloc::{AllocError, Global};
-use w32_base::{Action, Instr, MaskChange, Operand};
+use std::alloc::Global;
+use w32_base::{Action, Instr, MaskChange, Memory, Operand};
 
 /// The line of `action`.
 fn action_line(
@@ -18,7 +18,7 @@ fn action_line(
     out: &mut Vec<u8>,
     signal: Operand,
     action: Action,
-) -> Result<(), AllocError>
+) -> Result<(), Memory>
     ensures { OnOk result (out.new.items ≡ out.old.items ++ line_text (instr_words (Instr.Action signal action))) }
 {
     match action {
@@ -30,12 +30,7 @@ fn action_line(
 }
 
 /// The line of `mask`.
-fn mask_line(
-    alloc: Global,
-    out: &mut Vec<u8>,
-    change: MaskChange,
-    v: Operand,
-) -> Result<(), AllocError>
+fn mask_line(alloc: Global, out: &mut Vec<u8>, change: MaskChange, v: Operand) -> Result<(), Memory>
     ensures { OnOk result (out.new.items ≡ out.old.items ++ line_text (instr_words (Instr.Mask change v))) }
 {
     match change {
@@ -46,7 +41,7 @@ fn mask_line(
 }
 
 /// The line of an instruction.
-pub fn instr_line(alloc: Global, out: &mut Vec<u8>, instr: Instr) -> Result<(), AllocError>
+pub fn instr_line(alloc: Global, out: &mut Vec<u8>, instr: Instr) -> Result<(), Memory>
     ensures { OnOk result (out.new.items ≡ out.old.items ++ line_text (instr_words instr)) }
 {
     match instr {

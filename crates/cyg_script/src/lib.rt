@@ -19,9 +19,10 @@ mod word_print;
 mod words;
 
 pub use error::ScriptError;
-pub use print::{Memory, print_script};
+pub use print::print_script;
 pub use script::read_script;
 pub use script_spec::{Kind, Lines, Occupied, OccupiedPage, ScheduleLine, Script};
+pub use w32_base::Memory;
 
 #[cfg(test)]
 mod tests;

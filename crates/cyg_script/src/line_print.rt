@@ -7,11 +7,11 @@ ghost use Rattle.script_spec.specs.Lines.{spaced};
 ghost use Rattle.script_spec.specs.Print.{key_text, line_text};
 
 use crate::word_print::{key_byte, number, operand, register};
-use std::alloc::{AllocError, Global};
-use w32_base::{Operand, Register};
+use std::alloc::Global;
+use w32_base::{Memory, Operand, Register};
 
 /// A line of one word.
-pub fn alone(out: &mut Vec<u8>, word: &[u8]) -> Result<(), AllocError>
+pub fn alone(out: &mut Vec<u8>, word: &[u8]) -> Result<(), Memory>
     ensures { OnOk result (out.new.items ≡ out.old.items ++ line_text (word.now ∷ [])) }
 {
     out.extend_from_slice(word)?;
@@ -20,7 +20,7 @@ pub fn alone(out: &mut Vec<u8>, word: &[u8]) -> Result<(), AllocError>
 }
 
 /// A line of two words.
-pub fn two_words(out: &mut Vec<u8>, word: &[u8], other: &[u8]) -> Result<(), AllocError>
+pub fn two_words(out: &mut Vec<u8>, word: &[u8], other: &[u8]) -> Result<(), Memory>
     ensures { OnOk result (out.new.items ≡ out.old.items ++ line_text (word.now ∷ other.now ∷ [])) }
 {
     out.extend_from_slice(word)?;
@@ -29,7 +29,7 @@ pub fn two_words(out: &mut Vec<u8>, word: &[u8], other: &[u8]) -> Result<(), All
 }
 
 /// A number, and the end of the line.
-fn last_number(alloc: Global, out: &mut Vec<u8>, n: u64) -> Result<(), AllocError>
+fn last_number(alloc: Global, out: &mut Vec<u8>, n: u64) -> Result<(), Memory>
     ensures { OnOk result (out.new.items ≡ out.old.items ++ line_text (decimal n ∷ [])) }
 {
     number(alloc, out, n)?;
@@ -38,7 +38,7 @@ fn last_number(alloc: Global, out: &mut Vec<u8>, n: u64) -> Result<(), AllocErro
 }
 
 /// A word and a number.
-pub fn with_number(alloc: Global, out: &mut Vec<u8>, word: &[u8], n: u64) -> Result<(), AllocError>
+pub fn with_number(alloc: Global, out: &mut Vec<u8>, word: &[u8], n: u64) -> Result<(), Memory>
     ensures { OnOk result (out.new.items ≡ out.old.items ++ line_text (word.now ∷ decimal n ∷ [])) }
 {
     out.extend_from_slice(word)?;
@@ -53,7 +53,7 @@ pub fn with_numbers(
     word: &[u8],
     m: u64,
     n: u64,
-) -> Result<(), AllocError>
+) -> Result<(), Memory>
     ensures { OnOk result (out.new.items ≡ out.old.items ++ line_text (word.now ∷ decimal m ∷ decimal n ∷ [])) }
 {
     out.extend_from_slice(word)?;
@@ -71,7 +71,7 @@ pub fn with_name(
     name: &[u8],
     m: u64,
     n: u64,
-) -> Result<(), AllocError>
+) -> Result<(), Memory>
     ensures { OnOk result (out.new.items ≡ out.old.items ++ line_text
         (word.now ∷ name.now ∷ decimal m ∷ decimal n ∷ [])) }
 {
@@ -87,7 +87,7 @@ pub fn with_sizes(
     name: &[u8],
     heap: u64,
     stack: u64,
-) -> Result<(), AllocError>
+) -> Result<(), Memory>
     ensures { OnOk result (out.new.items ≡ out.old.items ++ line_text (codes "program" ∷ name.now ∷ codes "heap"
         ∷ decimal heap ∷ codes "stack" ∷ decimal stack ∷ [])) }
 {
@@ -100,7 +100,7 @@ pub fn with_sizes(
 }
 
 /// `key` and a byte.
-pub fn with_key(out: &mut Vec<u8>, byte: u8) -> Result<(), AllocError>
+pub fn with_key(out: &mut Vec<u8>, byte: u8) -> Result<(), Memory>
     ensures { OnOk result (out.new.items ≡ out.old.items ++ line_text (codes "key" ∷ key_text byte ∷ [])) }
 {
     out.extend_from_slice(b"key ")?;
@@ -110,7 +110,7 @@ pub fn with_key(out: &mut Vec<u8>, byte: u8) -> Result<(), AllocError>
 }
 
 /// An operand, and the end of the line.
-fn last_operand(alloc: Global, out: &mut Vec<u8>, v: Operand) -> Result<(), AllocError>
+fn last_operand(alloc: Global, out: &mut Vec<u8>, v: Operand) -> Result<(), Memory>
     ensures { OnOk result (out.new.items ≡ out.old.items ++ line_text (operand_text v ∷ [])) }
 {
     operand(alloc, out, v)?;
@@ -119,12 +119,7 @@ fn last_operand(alloc: Global, out: &mut Vec<u8>, v: Operand) -> Result<(), Allo
 }
 
 /// A word and an operand.
-pub fn with_operand(
-    alloc: Global,
-    out: &mut Vec<u8>,
-    word: &[u8],
-    v: Operand,
-) -> Result<(), AllocError>
+pub fn with_operand(alloc: Global, out: &mut Vec<u8>, word: &[u8], v: Operand) -> Result<(), Memory>
     ensures { OnOk result (out.new.items ≡ out.old.items ++ line_text (word.now ∷ operand_text v ∷ [])) }
 {
     out.extend_from_slice(word)?;
@@ -139,7 +134,7 @@ pub fn with_operands(
     word: &[u8],
     u: Operand,
     v: Operand,
-) -> Result<(), AllocError>
+) -> Result<(), Memory>
     ensures { OnOk result (out.new.items ≡ out.old.items ++ line_text
         (word.now ∷ operand_text u ∷ operand_text v ∷ [])) }
 {
@@ -151,7 +146,7 @@ pub fn with_operands(
 }
 
 /// A word and a register.
-pub fn with_register(out: &mut Vec<u8>, word: &[u8], r: Register) -> Result<(), AllocError>
+pub fn with_register(out: &mut Vec<u8>, word: &[u8], r: Register) -> Result<(), Memory>
     ensures { OnOk result (out.new.items ≡ out.old.items ++ line_text (word.now ∷ register_text r ∷ [])) }
 {
     out.extend_from_slice(word)?;
@@ -168,7 +163,7 @@ pub fn with_register_operand(
     word: &[u8],
     r: Register,
     v: Operand,
-) -> Result<(), AllocError>
+) -> Result<(), Memory>
     ensures { OnOk result (out.new.items ≡ out.old.items ++ line_text
         (word.now ∷ register_text r ∷ operand_text v ∷ [])) }
 {
@@ -186,7 +181,7 @@ pub fn with_operand_place(
     word: &[u8],
     v: Operand,
     n: u16,
-) -> Result<(), AllocError>
+) -> Result<(), Memory>
     ensures { OnOk result (out.new.items ≡ out.old.items ++ line_text (word.now ∷ operand_text v ∷ decimal n ∷ [])) }
 {
     out.extend_from_slice(word)?;
@@ -203,7 +198,7 @@ pub fn with_operand_word(
     word: &[u8],
     v: Operand,
     other: &[u8],
-) -> Result<(), AllocError>
+) -> Result<(), Memory>
     ensures { OnOk result (out.new.items ≡ out.old.items ++ line_text (word.now ∷ operand_text v ∷ other.now ∷ [])) }
 {
     out.extend_from_slice(word)?;
@@ -220,7 +215,7 @@ pub fn with_word_operand(
     word: &[u8],
     other: &[u8],
     v: Operand,
-) -> Result<(), AllocError>
+) -> Result<(), Memory>
     ensures { OnOk result (out.new.items ≡ out.old.items ++ line_text (word.now ∷ other.now ∷ operand_text v ∷ [])) }
 {
     out.extend_from_slice(word)?;
@@ -229,7 +224,7 @@ pub fn with_word_operand(
 }
 
 /// `action V handler N`.
-pub fn with_handler(alloc: Global, out: &mut Vec<u8>, v: Operand, n: u16) -> Result<(), AllocError>
+pub fn with_handler(alloc: Global, out: &mut Vec<u8>, v: Operand, n: u16) -> Result<(), Memory>
     ensures { OnOk result (out.new.items ≡ out.old.items
         ++ line_text (codes "action" ∷ operand_text v ∷ codes "handler" ∷ decimal n ∷ [])) }
 {
@@ -240,7 +235,7 @@ pub fn with_handler(alloc: Global, out: &mut Vec<u8>, v: Operand, n: u16) -> Res
 }
 
 /// `action V handler N restart`.
-pub fn with_restart(alloc: Global, out: &mut Vec<u8>, v: Operand, n: u16) -> Result<(), AllocError>
+pub fn with_restart(alloc: Global, out: &mut Vec<u8>, v: Operand, n: u16) -> Result<(), Memory>
     ensures { OnOk result (out.new.items ≡ out.old.items
         ++ line_text (codes "action" ∷ operand_text v ∷ codes "handler" ∷ decimal n ∷ codes "restart" ∷ [])) }
 {

@@ -9,14 +9,11 @@ ghost use Rattle.script_spec.specs.Print.{line_text};
 use crate::instr_print::instr_line;
 use crate::line_print::{alone, with_key, with_name, with_number, with_numbers, with_sizes};
 use script_spec::{OccupiedPage, ScheduleLine, Script};
-use std::alloc::{AllocError, Global};
-use w32_base::{Code, Directive, Limits, Module, Program};
-
-/// Memory was wanting.
-pub type Memory = AllocError;
+use std::alloc::Global;
+use w32_base::{Code, Directive, Limits, Memory, Module, Program};
 
 /// The lines of the limits.
-fn limits_lines(alloc: Global, out: &mut Vec<u8>, limits: &Limits) -> Result<(), AllocError>
+fn limits_lines(alloc: Global, out: &mut Vec<u8>, limits: &Limits) -> Result<(), Memory>
     ensures { OnOk result (out.new.items ≡ out.old.items ++ words_text (limits_words limits.now)) }
 {
     out.extend_from_slice(b"cygscript 1\n")?;
@@ -26,7 +23,7 @@ fn limits_lines(alloc: Global, out: &mut Vec<u8>, limits: &Limits) -> Result<(),
 }
 
 /// The lines of the modules.
-fn module_lines(alloc: Global, out: &mut Vec<u8>, modules: &[Module]) -> Result<(), AllocError>
+fn module_lines(alloc: Global, out: &mut Vec<u8>, modules: &[Module]) -> Result<(), Memory>
     ensures { OnOk result (out.new.items ≡ out.old.items ++ words_text (map module_words modules.now)) }
 {
     for module in modules {
@@ -43,7 +40,7 @@ fn module_lines(alloc: Global, out: &mut Vec<u8>, modules: &[Module]) -> Result<
 }
 
 /// The lines of the occupied pages.
-fn page_lines(alloc: Global, out: &mut Vec<u8>, pages: &[OccupiedPage]) -> Result<(), AllocError>
+fn page_lines(alloc: Global, out: &mut Vec<u8>, pages: &[OccupiedPage]) -> Result<(), Memory>
     ensures { OnOk result (out.new.items ≡ out.old.items ++ words_text (map occupied_words pages.now)) }
 {
     for page in pages {
@@ -59,7 +56,7 @@ fn page_lines(alloc: Global, out: &mut Vec<u8>, pages: &[OccupiedPage]) -> Resul
 }
 
 /// The lines of a program's instructions.
-fn code_lines(alloc: Global, out: &mut Vec<u8>, code: &Code) -> Result<(), AllocError>
+fn code_lines(alloc: Global, out: &mut Vec<u8>, code: &Code) -> Result<(), Memory>
     ensures { OnOk result (out.new.items ≡ out.old.items ++ words_text (map instr_words code.now)) }
 {
     for place in 0..code.len() {
@@ -72,7 +69,7 @@ fn code_lines(alloc: Global, out: &mut Vec<u8>, code: &Code) -> Result<(), Alloc
 }
 
 /// The lines of a program.
-fn program_lines(alloc: Global, out: &mut Vec<u8>, program: &Program) -> Result<(), AllocError>
+fn program_lines(alloc: Global, out: &mut Vec<u8>, program: &Program) -> Result<(), Memory>
     ensures { OnOk result (out.new.items ≡ out.old.items ++ words_text (program_lines program.now)) }
 {
     with_sizes(
@@ -86,7 +83,7 @@ fn program_lines(alloc: Global, out: &mut Vec<u8>, program: &Program) -> Result<
 }
 
 /// The lines of the programs.
-fn programs_lines(alloc: Global, out: &mut Vec<u8>, programs: &[Program]) -> Result<(), AllocError>
+fn programs_lines(alloc: Global, out: &mut Vec<u8>, programs: &[Program]) -> Result<(), Memory>
     ensures { OnOk result (out.new.items ≡ out.old.items ++ words_text (programs_lines programs.now)) }
 {
     for program in programs {
@@ -96,7 +93,7 @@ fn programs_lines(alloc: Global, out: &mut Vec<u8>, programs: &[Program]) -> Res
 }
 
 /// The line of a directive.
-fn directive_line(alloc: Global, out: &mut Vec<u8>, directive: Directive) -> Result<(), AllocError>
+fn directive_line(alloc: Global, out: &mut Vec<u8>, directive: Directive) -> Result<(), Memory>
     ensures { OnOk result (out.new.items ≡ out.old.items ++ line_text (directive_words directive)) }
 {
     match directive {
@@ -113,7 +110,7 @@ fn directive_line(alloc: Global, out: &mut Vec<u8>, directive: Directive) -> Res
 }
 
 /// A line of the schedule.
-fn schedule_line(alloc: Global, out: &mut Vec<u8>, line: ScheduleLine) -> Result<(), AllocError>
+fn schedule_line(alloc: Global, out: &mut Vec<u8>, line: ScheduleLine) -> Result<(), Memory>
     ensures { OnOk result (out.new.items ≡ out.old.items ++ line_text (schedule_words line)) }
 {
     match line {
@@ -124,11 +121,7 @@ fn schedule_line(alloc: Global, out: &mut Vec<u8>, line: ScheduleLine) -> Result
 }
 
 /// The lines of the schedule after its first one.
-fn schedule_lines(
-    alloc: Global,
-    out: &mut Vec<u8>,
-    lines: &[ScheduleLine],
-) -> Result<(), AllocError>
+fn schedule_lines(alloc: Global, out: &mut Vec<u8>, lines: &[ScheduleLine]) -> Result<(), Memory>
     ensures { OnOk result (out.new.items ≡ out.old.items ++ words_text (map schedule_words lines.now)) }
 {
     for line in lines {

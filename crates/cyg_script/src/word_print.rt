@@ -5,11 +5,11 @@ ghost use Rattle.std.specs.Fmt.{decimal, signed_decimal};
 ghost use Rattle.script_spec.specs.InstrText.{register_text, operand_text};
 ghost use Rattle.script_spec.specs.Print.{key_text, hexadecimal_digit};
 
-use std::alloc::{AllocError, Global};
-use w32_base::{Operand, Register};
+use std::alloc::Global;
+use w32_base::{Memory, Operand, Register};
 
 /// A number without a sign.
-pub fn number(alloc: Global, out: &mut Vec<u8>, n: u64) -> Result<(), AllocError>
+pub fn number(alloc: Global, out: &mut Vec<u8>, n: u64) -> Result<(), Memory>
     ensures { OnOk result (out.new.items ≡ out.old.items ++ decimal n) }
 {
     let text = format!(in alloc; "{n}")?;
@@ -18,7 +18,7 @@ pub fn number(alloc: Global, out: &mut Vec<u8>, n: u64) -> Result<(), AllocError
 }
 
 /// A number that may have a sign.
-fn signed(alloc: Global, out: &mut Vec<u8>, n: i32) -> Result<(), AllocError>
+fn signed(alloc: Global, out: &mut Vec<u8>, n: i32) -> Result<(), Memory>
     ensures { OnOk result (out.new.items ≡ out.old.items ++ signed_decimal n) }
 {
     let text = format!(in alloc; "{n}")?;
@@ -27,7 +27,7 @@ fn signed(alloc: Global, out: &mut Vec<u8>, n: i32) -> Result<(), AllocError>
 }
 
 /// A register.
-pub fn register(out: &mut Vec<u8>, r: Register) -> Result<(), AllocError>
+pub fn register(out: &mut Vec<u8>, r: Register) -> Result<(), Memory>
     ensures { OnOk result (out.new.items ≡ out.old.items ++ register_text r) }
 {
     out.push(b'r')?;
@@ -36,7 +36,7 @@ pub fn register(out: &mut Vec<u8>, r: Register) -> Result<(), AllocError>
 }
 
 /// A register or a number.
-pub fn operand(alloc: Global, out: &mut Vec<u8>, v: Operand) -> Result<(), AllocError>
+pub fn operand(alloc: Global, out: &mut Vec<u8>, v: Operand) -> Result<(), Memory>
     ensures { OnOk result (out.new.items ≡ out.old.items ++ operand_text v) }
 {
     match v {
@@ -59,7 +59,7 @@ fn hexadecimal(digit: u8) -> u8
 }
 
 /// A byte as two of them.
-pub fn key_byte(out: &mut Vec<u8>, byte: u8) -> Result<(), AllocError>
+pub fn key_byte(out: &mut Vec<u8>, byte: u8) -> Result<(), Memory>
     ensures { OnOk result (out.new.items ≡ out.old.items ++ key_text byte) }
 {
     out.push(hexadecimal(byte / 16))?;

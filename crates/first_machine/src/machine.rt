@@ -75,7 +75,7 @@ impl Machine {
             host: Seat {
                 life: SeatLife::Alive,
                 posted: Call::Load(HandleNo::new(1), 0),
-                own: no_memory(alloc),
+                own: Own::new(alloc)?,
             },
             layer: Seat {
                 life: SeatLife::Alive,
@@ -331,20 +331,7 @@ fn distance(last_slot: u8, last_thread: u8, slot: u8, thread: u8) -> u32
     (place + 194).saturating_sub(last) % 195
 }
 
-ghost use Rattle.first_win32_spec.specs.Lookup.{no_memory as empty_memory};
 ghost use Rattle.first_win32_spec.specs.Opening.{opening_memory};
-
-fn no_memory(alloc: Global) -> Own
-    ensures { result ≡ empty_memory }
-{
-    Own {
-        dat: Bytes::from_vec(Vec::new(alloc)),
-        heap: Bytes::from_vec(Vec::new(alloc)),
-        stack: Bytes::from_vec(Vec::new(alloc)),
-        cyg: Bytes::from_vec(Vec::new(alloc)),
-        scratch: Bytes::from_vec(Vec::new(alloc)),
-    }
-}
 
 fn open_memory(alloc: Global, program: &Program) -> Result<Own, AllocError>
     ensures { IfOk result (λ own. own ≡ opening_memory program.now) }

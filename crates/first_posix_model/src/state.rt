@@ -150,7 +150,7 @@ fn new_memory(alloc: Global, program: &Program) -> Result<Own, AllocError>
         dat: Bytes::zeros(alloc, 64)?,
         heap: Bytes::zeros(alloc, usize::from(program.heap))?,
         stack: Bytes::zeros(alloc, usize::from(program.stack))?,
-        cyg: Bytes::from_vec(Vec::new(alloc)),
-        scratch: Bytes::from_vec(Vec::new(alloc)),
+        cyg: Bytes::new(alloc)?,
+        scratch: Bytes::new(alloc)?,
     })
 }

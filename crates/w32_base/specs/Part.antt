@@ -1,5 +1,5 @@
 -- The laws of a part of the layer.
-use Rattle.std.specs.Prelude.{◌≡◌, Bool, true, false, ◌||◌, not, nat_eq, length, Option, Some, None}
+use Rattle.std.specs.Prelude.{◌≡◌, Bool, true, false, ◌||◌, not, nat_eq, length, Option, Some, None, []}
 use Rattle.w32_base.specs.declared.call.Call.{Call}
 use Rattle.w32_base.specs.declared.call.Call.TheVariants as call
 use Rattle.w32_base.specs.declared.call.Reply.{Reply}
@@ -45,3 +45,7 @@ pub record KeepsImage (old new : Own) : Type 0 where
 -- own with the data, heap and stack of other
 abbrev pub with_image : Own → Own → Own
 with_image own other = record own { dat = other.dat; heap = other.heap; stack = other.stack }
+
+-- regions without bytes
+abbrev pub no_bytes : Own
+no_bytes = record { dat = []; heap = []; stack = []; cyg = []; scratch = [] }

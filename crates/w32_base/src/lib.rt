@@ -20,7 +20,7 @@ pub use instr::{Action, Instr, MaskChange, Operand, Register};
 pub use lists::{Bytes64, HandleList, ShortBytes};
 pub use names::Name;
 pub use numbers::{Acting, HandleNo, Number, ObjectNo, Pid, RowNo, Slot, ThreadNo, WinNo};
-pub use own::{Bytes, Own};
+pub use own::{Bytes, Memory, Own};
 pub use part::{After, Part, Whole};
 pub use setup::{Code, Limits, Module, Modules, Program, Programs, Setup};
 

@@ -1,47 +1,67 @@
 //! The memory of a process.
 
-ghost use Rattle.std.specs.Prelude.{◌≡◌, ◌<◌, ◌≤◌, length, IfOk, slice_get, slice_index, slice_set, replicate, IsTrue, ◌↔◌, [], ◌+◌, ◌++◌, take, drop};
+ghost use Rattle.std.specs.Prelude.{◌≡◌, ◌<◌, ◌≤◌, length, IfOk, slice_get, slice_index, slice_set, replicate, IsTrue, ◌↔◌, [], ◌+◌, ◌++◌, take, drop, vec_capacity};
 ghost use Rattle.std.specs.Int.{w32, from_le_bytes, to_le_bytes};
+ghost use Rattle.w32_base.specs.Part.{no_bytes};
 
 use std::alloc::{AllocError, Global};
 use std::marker::Model;
 
-/// Bytes on the heap. A contract sees them as a list.
+/// Want of memory.
+pub type Memory = AllocError;
+
+/// Bytes on the heap, with room for `ROOM` of them, which is taken at once. A contract sees them as a list.
 #[derive(Debug, Drop)]
-pub struct Bytes {
+pub struct Bytes<const ROOM: usize> {
     bytes: Vec<u8>,
 }
 
-impl Model for Bytes {
-    ghost use Rattle.std.specs.Prelude.{List, ℕ};
+impl<const ROOM: usize> Model for Bytes<ROOM> {
+    ghost use Rattle.std.specs.Prelude.{List, ℕ, ◌≤◌, vec_capacity};
 
     ghost Value = { List ℕ };
 
     ghost view = { λ b. b.bytes.items };
+
+    ghost invariant = { λ b. ROOM ≤ vec_capacity b.bytes };
 }
 
-impl Bytes {
-    /// These bytes, without taking memory.
-    pub fn from_vec(bytes: Vec<u8>) -> Bytes
-        ensures { result ≡ bytes.items }
-    {
-        Bytes { bytes }
-    }
-
-    /// The bytes again, without taking memory.
-    pub fn into_vec(self) -> Vec<u8>
-        ensures { result.items ≡ self }
-    {
-        self.bytes
-    }
-
-    /// So many zeros.
-    pub fn zeros(alloc: Global, count: usize) -> Result<Bytes, AllocError>
-        ensures { IfOk result (λ b. b ≡ replicate count 0) }
+impl<const ROOM: usize> Bytes<ROOM> {
+    /// No bytes, with the room for them. It fails only for want of memory.
+    pub fn new(alloc: Global) -> Result<Bytes<ROOM>, Memory>
+        ensures { IfOk result (λ b. b ≡ []) }
     {
         Ok(Bytes {
-            bytes: vec![in alloc; 0; count]?,
+            bytes: Vec::with_capacity(alloc, ROOM)?,
         })
+    }
+
+    /// So many zeros, for which there is room. It fails only for want of memory.
+    pub fn zeros(alloc: Global, count: usize) -> Result<Bytes<ROOM>, Memory>
+        requires { count ≤ ROOM }
+        ensures { IfOk result (λ b. b ≡ replicate count 0) }
+    {
+        let mut bytes = Bytes::new(alloc)?;
+        bytes.reset(count);
+        Ok(bytes)
+    }
+
+    /// So many zeros in place of the bytes, without taking memory.
+    pub fn reset(&mut self, count: usize)
+        requires { count ≤ ROOM }
+        ensures { self.new ≡ replicate count 0 }
+    {
+        self.bytes.clear();
+        let Ok(()) = self.bytes.resize(count, 0) else {
+            unreachable!()
+        };
+    }
+
+    /// No bytes any more. The room stays.
+    pub fn clear(&mut self)
+        ensures { self.new ≡ [] }
+    {
+        self.bytes.clear();
     }
 
     /// How many bytes there are.
@@ -112,17 +132,43 @@ impl Bytes {
     }
 }
 
-/// The five regions of a process's memory.
+/// The five regions of a process's memory, each with room for the most bytes that it may have.
 #[derive(Debug, Drop)]
 pub struct Own {
     /// The data region: registers, the place of the next instruction, the bytes of stack in use, the program.
-    pub dat: Bytes,
+    pub dat: Bytes<64>,
     /// The heap.
-    pub heap: Bytes,
+    pub heap: Bytes<32768>,
     /// The stack, which grows upwards from 0.
-    pub stack: Bytes,
+    pub stack: Bytes<32768>,
     /// The cygheap.
-    pub cyg: Bytes,
+    pub cyg: Bytes<288>,
     /// The scratch region.
-    pub scratch: Bytes,
+    pub scratch: Bytes<512>,
+}
+
+impl Own {
+    /// Regions without bytes, with their room. It fails only for want of memory.
+    pub fn new(alloc: Global) -> Result<Own, Memory>
+        ensures { IfOk result (λ own. own ≡ no_bytes) }
+    {
+        Ok(Own {
+            dat: Bytes::new(alloc)?,
+            heap: Bytes::new(alloc)?,
+            stack: Bytes::new(alloc)?,
+            cyg: Bytes::new(alloc)?,
+            scratch: Bytes::new(alloc)?,
+        })
+    }
+
+    /// Regions without bytes again. The room stays.
+    pub fn clear(&mut self)
+        ensures { self.new ≡ no_bytes }
+    {
+        self.dat.clear();
+        self.heap.clear();
+        self.stack.clear();
+        self.cyg.clear();
+        self.scratch.clear();
+    }
 }

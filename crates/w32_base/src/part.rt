@@ -78,6 +78,9 @@ pub trait Whole: Part {
     /// It is never done.
     ghost is_never_done: { (p : Self) → 0 < Self.rank p };
 
+    /// There is one opening part for a thread of a slot.
+    ghost is_one: { (p q : Self) → opening p → opening q → slot_of p ≡ slot_of q → thread_of p ≡ thread_of q → p ≡ q };
+
     /// It first looks at the number of claimed rows.
     ghost begins: { (p : Self) → opening p → Self.posted_of p ≡ Load 1 0 };
 

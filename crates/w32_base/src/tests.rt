@@ -58,7 +58,7 @@ fn short_lists_hold_what_they_get(rt: HostRuntime) -> Result<(), Fail> {
 
 #[test]
 fn memory_keeps_bytes(rt: HostRuntime) -> Result<(), Fail> {
-    let mut bytes = Bytes::zeros(rt.alloc(), 8)?;
+    let mut bytes: Bytes<10> = Bytes::zeros(rt.alloc(), 8)?;
     assert!(rt; bytes.len() == 8);
     bytes.set(7, 9);
     bytes.set_word(0, 258);
@@ -66,8 +66,10 @@ fn memory_keeps_bytes(rt: HostRuntime) -> Result<(), Fail> {
     assert_eq!(rt; bytes.as_slice(), [2u8, 1, 0, 0, 3, 4, 0, 9].as_slice());
     assert_eq!(rt; bytes.word(0), 258);
     assert_eq!(rt; bytes.get(8), None);
-    assert_eq!(rt; bytes.into_vec().len(), 8);
-    assert!(rt; Bytes::from_vec(Vec::new(rt.alloc())).is_empty());
+    bytes.reset(10);
+    assert_eq!(rt; bytes.as_slice(), [0u8; 10].as_slice());
+    bytes.clear();
+    assert!(rt; bytes.is_empty());
     Ok(())
 }
 

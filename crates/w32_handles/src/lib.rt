@@ -5,4 +5,5 @@ pub mod handles;
 pub mod objects;
 
 pub use handles::{BadHandle, Handles, TableFull};
-pub use objects::{Memory, Objects};
+pub use objects::Objects;
+pub use w32_base::Memory;

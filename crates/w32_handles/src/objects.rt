@@ -7,10 +7,7 @@ ghost use Rattle.w32_handles.specs.Table.{object_at, Changes, one_more, one_less
 use slab::Slab;
 use std::alloc::{AllocError, Global};
 use std::marker::Model;
-use w32_base::ObjectNo;
-
-/// Want of memory.
-pub type Memory = AllocError;
+use w32_base::{Memory, ObjectNo};
 
 /// How many objects have numbers: an object's number is twice its place in the table.
 const MOST_OBJECTS: usize = 2_147_483_648;

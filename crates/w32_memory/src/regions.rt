@@ -3,8 +3,8 @@
 ghost use Rattle.std.specs.Prelude.{◌≡◌, ◌↔◌, ◌≤◌, ◌+◌, false, length, IfOk, OnOk, OnErr, IsErr};
 ghost use Rattle.win32_spec.specs.Regions.{region_of, with_region, is_inside, range_of, written, zeroed_own};
 
-use std::alloc::{AllocError, Global};
-use w32_base::{Bytes, Own, Program, Region};
+use std::alloc::Global;
+use w32_base::{Bytes, Memory, Own, Program, Region};
 
 /// How many bytes the data region has.
 const DATA_BYTES: usize = 64;
@@ -29,7 +29,7 @@ pub fn read_own(own: &Own, region: Region, place: u32, into: &mut [u8]) -> Resul
     ensures bytes { OnOk result (into.new ≡ range_of (region_of own.now region) place (length into.old)) }
     ensures unchanged { OnErr result (into.new ≡ into.old) }
 {
-    let bytes = bytes_of(own, region).as_slice();
+    let bytes = bytes_of(own, region);
     if !lies_inside(bytes.len(), place, into.len()) {
         return Err(BadRange);
     }
@@ -64,7 +64,7 @@ pub fn write_own(own: &mut Own, region: Region, place: u32, from: &[u8]) -> Resu
 /// # Errors
 ///
 /// There is no memory for it.
-pub fn open_own(alloc: Global, program: &Program) -> Result<Own, AllocError>
+pub fn open_own(alloc: Global, program: &Program) -> Result<Own, Memory>
     ensures { IfOk result (λ own. own ≡ zeroed_own program.now.heap program.now.stack) }
 {
     Ok(Own {
@@ -77,15 +77,15 @@ pub fn open_own(alloc: Global, program: &Program) -> Result<Own, AllocError>
 }
 
 /// The bytes of a region.
-fn bytes_of(own: &Own, region: Region) -> &Bytes
+fn bytes_of(own: &Own, region: Region) -> &[u8]
     ensures { result.now ≡ region_of own.now region }
 {
     match region {
-        Region::Dat => &own.dat,
-        Region::Heap => &own.heap,
-        Region::Stack => &own.stack,
-        Region::Cyg => &own.cyg,
-        Region::Scratch => &own.scratch,
+        Region::Dat => own.dat.as_slice(),
+        Region::Heap => own.heap.as_slice(),
+        Region::Stack => own.stack.as_slice(),
+        Region::Cyg => own.cyg.as_slice(),
+        Region::Scratch => own.scratch.as_slice(),
     }
 }
 

@@ -4,7 +4,7 @@ use Rattle.std.specs.Borrow.{Lends, Fml, MutBor}
 use Rattle.w32_base.specs.declared.own.Own.{Own}
 use Rattle.win32_spec.specs.Handles.{Handle}
 use Rattle.w32_handles.specs.contracts.handles.Handles.{the_row as handles_row}
-use Rattle.w32_process.specs.contracts.regions.Regions.{the_row as regions_row}
+use Rattle.w32_base.specs.contracts.own.Own.{the_row as own_row}
 use Rattle.w32_process.specs.contracts.seat.Seat.{the_row as seat_row}
 use Rattle.w32_process.specs.contracts.processes.Processes.{the_row as processes_row}
 use Rattle.w32_process.specs.Places.{Place}
@@ -16,11 +16,11 @@ lends_handles place r = Lends seat_row handles_row place r (λ handles. record p
 
 -- the same of its memory
 abbrev pub lends_own : MutBor Place → MutBor Own → Fml
-lends_own place r = Lends seat_row regions_row place r (λ own. record place.now { own = own })
+lends_own place r = Lends seat_row own_row place r (λ own. record place.now { own = own })
 
 -- the same of the slot with this number
 abbrev pub lends_handles_at : MutBor Table → ℕ → MutBor (List Handle) → Fml
 lends_handles_at t slot r = Lends processes_row handles_row t r (with_handles t.now slot)
 
 abbrev pub lends_own_at : MutBor Table → ℕ → MutBor Own → Fml
-lends_own_at t slot r = Lends processes_row regions_row t r (with_own t.now slot)
+lends_own_at t slot r = Lends processes_row own_row t r (with_own t.now slot)

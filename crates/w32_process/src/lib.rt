@@ -4,8 +4,6 @@
 
 mod kept;
 mod processes;
-mod regions;
 mod seat;
 
 pub use processes::{MOST_KEPT, NoSlot, Processes};
-pub use regions::Regions;

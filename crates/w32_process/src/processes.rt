@@ -9,11 +9,10 @@ ghost use Rattle.w32_process.specs.Table.{with_count, with_made, with_end, IsLiv
 ghost use Rattle.w32_process.specs.Sound.{IsSound};
 
 use crate::kept::{Kept, code, place_of};
-use crate::regions::Regions;
 use crate::seat::Seat;
-use std::alloc::{AllocError, Global};
+use std::alloc::Global;
 use std::marker::Model;
-use w32_base::{Program, Slot, ThreadNo, WinNo};
+use w32_base::{Memory, Own, Program, Slot, ThreadNo, WinNo};
 use w32_handles::Handles;
 
 /// How many ended processes there may be that somebody names: each of them by a handle of a live process, of which
@@ -53,7 +52,7 @@ impl Processes {
 
     /// The host alone, in slot 0 and with the Win32 number 1, and so many slots for layer processes. All memory is
     /// taken here. It fails only for want of it.
-    pub fn open(alloc: Global, slots: u8) -> Result<Processes, AllocError>
+    pub fn open(alloc: Global, slots: u8) -> Result<Processes, Memory>
         requires { (1 ≤ slots) × (slots ≤ 64) }
         ensures { IfOk result (λ processes. processes ≡ opening_table slots) }
     {
@@ -163,7 +162,7 @@ impl Processes {
     }
 
     /// The memory of the process in a slot.
-    pub fn own(&self, slot: Slot) -> &Regions
+    pub fn own(&self, slot: Slot) -> &Own
         requires { IsSome (number_at self.now.slots slot) }
         ensures { result.now ≡ (place_at self.now.slots slot).own }
     {
@@ -171,7 +170,7 @@ impl Processes {
     }
 
     /// The memory of the process in a slot, to change it.
-    pub fn own_mut(&mut self, slot: Slot) -> &mut Regions
+    pub fn own_mut(&mut self, slot: Slot) -> &mut Own
         requires { IsSome (number_at self.old.slots slot) }
         ensures* lends { sem 𝓛 (lends_own_at self.entry slot result) }
         ensures value { result.now ≡ (place_at self.old.slots slot).own }

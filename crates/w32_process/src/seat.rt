@@ -1,14 +1,14 @@
 //! A slot, with the process in it.
 
 ghost use Rattle.std.specs.Prelude.{◌≡◌, ◌<◌, ◌↔◌, Some, None, length, slice_set, IsTrue, IfOk};
+ghost use Rattle.win32_spec.specs.Making.{new_memory};
 ghost use Rattle.std.specs.Borrow.{sem};
 ghost use Rattle.w32_process.specs.Places.{empty_place, host_place, made_place, count_of};
 
-use crate::regions::Regions;
 use arrayvec::ArrayVec;
-use std::alloc::{AllocError, Global};
+use std::alloc::Global;
 use std::marker::Model;
-use w32_base::{Program, ThreadNo, WinNo};
+use w32_base::{Memory, Own, Program, ThreadNo, WinNo};
 use w32_handles::Handles;
 
 /// How many threads a layer process has.
@@ -17,6 +17,18 @@ const THREADS: usize = 3;
 /// How often each thread of a new process is suspended.
 const AT_FIRST: u32 = 1;
 
+/// How many bytes the data region has.
+const DATA_BYTES: usize = 64;
+
+/// How many bytes the cygheap has.
+const CYGHEAP_BYTES: usize = 288;
+
+/// How many bytes the scratch region has.
+const SCRATCH_BYTES: usize = 512;
+
+/// Where the program's number stands in the data region.
+const PROGRAM_AT: usize = 40;
+
 /// A slot. Without a process it has no handles and no bytes, and keeps the room for them.
 #[derive(Debug, Drop)]
 pub struct Seat {
@@ -24,7 +36,7 @@ pub struct Seat {
     program: Option<u8>,
     suspended: ArrayVec<u32, THREADS>,
     handles: Handles,
-    regions: Regions,
+    own: Own,
 }
 
 impl Model for Seat {
@@ -37,7 +49,7 @@ impl Model for Seat {
       program = s.program;
       suspended = s.suspended.items;
       handles = s.handles;
-      own = s.regions;
+      own = s.own;
     } };
 }
 
@@ -45,7 +57,7 @@ impl Seat {
     ghost use Rattle.w32_process.specs.Lends.{lends_handles, lends_own};
 
     /// An empty slot. It fails only for want of memory.
-    pub fn empty(alloc: Global) -> Result<Seat, AllocError>
+    pub fn empty(alloc: Global) -> Result<Seat, Memory>
         ensures { IfOk result (λ seat. seat ≡ empty_place) }
     {
         Ok(Seat {
@@ -53,12 +65,12 @@ impl Seat {
             program: None,
             suspended: ArrayVec::new(),
             handles: Handles::new(),
-            regions: Regions::new(alloc)?,
+            own: Own::new(alloc)?,
         })
     }
 
     /// The slot of the host. It fails only for want of memory.
-    pub fn host(alloc: Global) -> Result<Seat, AllocError>
+    pub fn host(alloc: Global) -> Result<Seat, Memory>
         ensures { IfOk result (λ seat. seat ≡ host_place) }
     {
         let mut suspended = ArrayVec::new();
@@ -69,7 +81,7 @@ impl Seat {
             program: None,
             suspended,
             handles: Handles::new(),
-            regions: Regions::new(alloc)?,
+            own: Own::new(alloc)?,
         })
     }
 
@@ -121,18 +133,18 @@ impl Seat {
     }
 
     /// The memory of the process.
-    pub fn own(&self) -> &Regions
+    pub fn own(&self) -> &Own
         ensures { result.now ≡ self.now.own }
     {
-        &self.regions
+        &self.own
     }
 
     /// The memory of the process, to change it.
-    pub fn own_mut(&mut self) -> &mut Regions
+    pub fn own_mut(&mut self) -> &mut Own
         ensures* lends { sem 𝓛 (lends_own self.entry result) }
         ensures value { result.now ≡ self.old.own }
     {
-        &mut self.regions
+        &mut self.own
     }
 
     /// Makes a process of this program, which has this place in the script.
@@ -146,7 +158,7 @@ impl Seat {
         self.suspended.push(AT_FIRST);
         self.suspended.push(AT_FIRST);
         self.handles = handles;
-        self.regions.open(number, program);
+        renew(&mut self.own, number, program);
     }
 
     /// Takes the process out of the slot.
@@ -157,6 +169,18 @@ impl Seat {
         self.program = None;
         self.suspended.clear();
         self.handles = Handles::new();
-        self.regions.clear();
+        self.own.clear();
     }
+}
+
+/// The memory of a new process of this program, which has this place in the script. It takes no memory.
+fn renew(own: &mut Own, number: u8, program: &Program)
+    ensures { own.new ≡ new_memory number program.now }
+{
+    own.dat.reset(DATA_BYTES);
+    own.dat.set_word(PROGRAM_AT, u32::from(number));
+    own.heap.reset(usize::from(program.heap));
+    own.stack.reset(usize::from(program.stack));
+    own.cyg.reset(CYGHEAP_BYTES);
+    own.scratch.reset(SCRATCH_BYTES);
 }

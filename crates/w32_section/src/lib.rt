@@ -4,11 +4,9 @@
 ghost use Rattle.std.specs.Prelude.{◌≡◌, ◌<◌, ◌≤◌, ◌↔◌, length, replicate, slice_index, IsErr, IfOk};
 ghost use Rattle.win32_spec.specs.Objects.{exchanged, added};
 
-use std::alloc::{AllocError, Global};
+use std::alloc::Global;
 use std::marker::Model;
-
-/// Want of memory.
-pub type Memory = AllocError;
+use w32_base::Memory;
 
 /// The index is that of no word.
 #[derive(Clone, Copy, Debug, PartialEq, Eq)]

@@ -53,7 +53,7 @@ impl Part for ThreadPart {
 impl Whole for ThreadPart {
     ghost use Rattle.std.specs.Prelude.{◌≡◌};
     ghost use Rattle.cyg_cli.specs.declared.layer.step.Step.TheVariants.{Start};
-    ghost use Rattle.cyg_cli.specs.ThreadPartLaws.{is_positive, first_call, slot_stays, thread_stays, image_stays, image_is_ignored};
+    ghost use Rattle.cyg_cli.specs.ThreadPartLaws.{is_positive, is_alone, first_call, slot_stays, thread_stays, image_stays, image_is_ignored};
 
     ghost slot_of = { λ p. p.slot };
 
@@ -62,6 +62,8 @@ impl Whole for ThreadPart {
     ghost opening = { λ p. p.step ≡ Start };
 
     ghost is_never_done = { λ p. is_positive p.step };
+
+    ghost is_one = { is_alone };
 
     ghost begins = { first_call };
 
