@@ -49,7 +49,7 @@ pub fn push_frame(own: &mut Own, mask: u32, target: u16) -> Result<(), NoRoom>
 }
 
 /// The bytes of a frame.
-fn frame(dat: &Bytes, mask: u32) -> [u8; 40]
+fn frame(dat: &Bytes<64>, mask: u32) -> [u8; 40]
     requires { length dat.now ≡ 64 }
     ensures { result ≡ frame_bytes dat.now mask }
 {
