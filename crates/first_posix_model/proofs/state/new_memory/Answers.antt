@@ -19,4 +19,4 @@ pub returns-clause-image : goal.returns-clause-image
 returns-clause-image c =
     let heap : c.in_ok-zeros-2.field-0 ≡ replicate c.args.program.now.heap 0 = c.in_ok-zeros-2.ensures ∙ ap (λ n. replicate n 0) c.from.ensures in
     let stack : c.in_ok-zeros-3.field-0 ≡ replicate c.args.program.now.stack 0 = c.in_ok-zeros-3.ensures ∙ ap (λ n. replicate n 0) c.from-2.ensures in
-    image_is c.args.program.now (record { dat = c.in_ok-zeros.field-0; heap = c.in_ok-zeros-2.field-0; stack = c.in_ok-zeros-3.field-0; cyg = c.from_vec.result; scratch = c.from_vec-2.result }) c.in_ok-zeros.ensures heap stack
+    image_is c.args.program.now (record { dat = c.in_ok-zeros.field-0; heap = c.in_ok-zeros-2.field-0; stack = c.in_ok-zeros-3.field-0; cyg = c.in_ok-new.field-0; scratch = c.in_ok-new-2.field-0 }) c.in_ok-zeros.ensures heap stack

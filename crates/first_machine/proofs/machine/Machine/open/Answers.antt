@@ -26,5 +26,5 @@ returns-clause-opening c = record {
   section = 0;
   process = 1;
   differ = λ e. absurd (omega arith);
-  state = opening_is c.args.program.now _ _ _ _ _ c.in_ok-words.ensures.words c.no_memory.ensures c.in_ok-own.ensures c.new.ensures c.new-2.ensures;
+  state = opening_is c.args.program.now _ _ _ _ _ c.in_ok-words.ensures.words c.in_ok-new.ensures c.in_ok-own.ensures c.new.ensures c.new-3.ensures;
 }
