@@ -1,6 +1,6 @@
 use super::*;
 use std::test::Fail;
-use w32_base::{Code, Instr, Name, ObjectNo, Region};
+use w32_base::{Code, Instr, Name, ObjectNo};
 
 fn program(alloc: Global) -> Result<Program, Fail> {
     let code = Code::from_vec(vec![in alloc; Instr::Pause]?);
@@ -30,9 +30,9 @@ fn makes_a_process_in_the_lowest_slot(rt: HostRuntime) -> Result<(), Fail> {
     );
     assert_eq!(rt; processes.create(0, &program, Handles::new()), Err(NoSlot));
     let own = processes.own(Slot::new(1));
-    assert_eq!(rt; own.bytes(Region::Dat).get(40).copied(), Some(7));
-    assert_eq!(rt; own.bytes(Region::Heap).len(), 4);
-    assert_eq!(rt; own.bytes(Region::Stack).len(), 64);
+    assert_eq!(rt; own.dat.get(40), Some(7));
+    assert_eq!(rt; own.heap.len(), 4);
+    assert_eq!(rt; own.stack.len(), 64);
     Ok(())
 }
 
@@ -44,8 +44,8 @@ fn a_slot_is_used_again_after_an_end(rt: HostRuntime) -> Result<(), Fail> {
     let _ = processes.create(0, &program, Handles::new());
     let _ = processes.handles_mut(Slot::new(1)).open(ObjectNo::new(6));
     let own = processes.own_mut(Slot::new(1));
-    if own.bytes(Region::Heap).len() >= 2 {
-        own.copy_in(Region::Heap, 1, &[9]);
+    if own.heap.len() >= 2 {
+        own.heap.set(1, 9);
     }
     processes.end(Slot::new(1), 65536);
     assert_eq!(rt; processes.in_slot(Slot::new(1)), None);
@@ -58,8 +58,7 @@ fn a_slot_is_used_again_after_an_end(rt: HostRuntime) -> Result<(), Fail> {
         processes.handles(Slot::new(1)).count_of(ObjectNo::new(6)),
         0
     );
-    let heap = processes.own(Slot::new(1)).bytes(Region::Heap);
-    assert_eq!(rt; heap.get(1).copied(), Some(0));
+    assert_eq!(rt; processes.own(Slot::new(1)).heap.get(1), Some(0));
     Ok(())
 }
 
