@@ -3,7 +3,8 @@ use Rattle.std.proofs.Common.{◌≡◌, ℕ, ◌+◌, ◌-◌, ◌^◌, ◌≤�
 use Rattle.std.proofs.Common.{Some, IfSome, sym, ◌∙◌, ap, arith, append_assoc, length-append, subst}
 use Rattle.std.proofs.lemmas.List.{length-take-le, drop_at, nil_from_length}
 use Rattle.std.proofs.Math.Seq.{take-add}
-use Rattle.std.specs.Io.KnownBytes.{Appends, Consumes}
+use Rattle.std.proofs.KnownBytes.{Consumes-kept}
+use Rattle.std.specs.Io.KnownBytes.{Appends, Consumes, Keeps}
 use Rattle.cyg_io.specs.Counts.{RoseBy}
 use Rattle.cyg_io.specs.Source.{Draws}
 
@@ -53,6 +54,14 @@ Draws-more a b c xs buf had n all g0 g1 g2 counted first second within so_far mo
       bytes = gone a c (xs ++ take n buf) all size (Consumes-append a b c xs (take n buf) first second);
       count = omega arith;
     }
+
+-- the bytes read so far, and then a fault
+pub Draws-kept : (a b c : Option (List ℕ)) (xs : List ℕ) (had g0 g1 g2 : ℕ) → length xs ≡ had → Consumes a b xs
+    → Keeps b c → g1 ≡ min (g0 + had) (max g0 (2 ^ 64 - 1)) → g2 ≡ g1 → g0 ≤ 2 ^ 64 - 1 → Draws had a c g0 g2
+Draws-kept a b c xs had g0 g1 g2 counted consumed kept so_far same in_range = record {
+  bytes = gone a c xs had counted (Consumes-kept a b c xs consumed kept);
+  count = omega (arith, so_far, same, in_range);
+}
 
 -- nothing is left behind the last bytes
 pub none_left : (a b c : Option (List ℕ)) (xs ys : List ℕ) → Consumes a b xs → Consumes b c ys

@@ -26,11 +26,17 @@ pub record FaultlessSource : Type 0 where
   pub given : ℕ
   pub ends : ℕ
 
--- the counts of a source that tells nothing of its bytes
-pub record SourceCounts : Type 0 where
+-- a source over a reader: the reader, and the counts of faults, of bytes given and of ends
+pub record CountingReader (R : Type 0) : Type 0 where
+  pub reader : R
   pub faults : ℕ
   pub given : ℕ
   pub ends : ℕ
+
+-- a sink over a writer: the writer, and the count of faults
+pub record CountingWriter (W : Type 0) : Type 0 where
+  pub writer : W
+  pub faults : ℕ
 
 -- the number of the next call after so many, from 1
 abbrev pub next_call : ℕ → ℕ

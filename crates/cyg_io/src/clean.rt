@@ -1,6 +1,7 @@
 //! A source and a sink that never have a fault.
 
-ghost use Rattle.std.specs.Prelude.{◌≡◌, length, None, Some, Ok};
+ghost use Rattle.std.specs.Prelude.{◌≡◌, ◌<◌, ◌≤◌, ◌↔◌, ◌++◌, [], length, take, min, None, Some, Ok, IfOk, IsOk};
+ghost use Rattle.cyg_io.specs.Counts.{NeverFalls, RoseBy};
 
 use crate::sink::{Sink, WriteFailed};
 use crate::source::{ReadFailed, Source};
@@ -44,7 +45,22 @@ impl Source for CleanSource {
 
     ghost ends = { λ s. s.ends };
 
-    fn read(&mut self, buf: &mut [u8]) -> Result<usize, ReadFailed> {
+    fn read(&mut self, buf: &mut [u8]) -> Result<usize, ReadFailed>
+        requires { 0 < length buf.old }
+
+        // It never fails, and gives as much as it can.
+        ensures no_error { IsOk result }
+        ensures count { IfOk result (λ n. n ≡ min (length self.old.left) (length buf.old)) }
+        ensures within { IfOk result (λ n. n ≤ length buf.new) }
+        ensures bytes { IfOk result (λ n. self.old.left ≡ take n buf.new ++ self.new.left) }
+        ensures end { IfOk result (λ n. n ≡ 0 ↔ self.old.left ≡ []) }
+
+        ensures gave { IfOk result (λ n. RoseBy n self.old.given self.new.given) }
+        ensures ended { IfOk result (λ n. n ≡ 0 → RoseBy 1 self.old.ends self.new.ends) }
+        ensures goes_on { IfOk result (λ n. 0 < n → self.new.ends ≡ self.old.ends) }
+        ensures given_stay { NeverFalls self.old.given self.new.given }
+        ensures ends_stay { NeverFalls self.old.ends self.new.ends }
+    {
         Ok(self.supply.give(buf))
     }
 }
@@ -62,6 +78,8 @@ impl CleanSink {
 
 impl Sink for CleanSink {
     ghost held = { λ _. None };
+
+    ghost pieces = { λ _. None };
 
     ghost faults = { λ _. 0 };
 

@@ -1,6 +1,7 @@
 //! A source and a sink in memory, with calls that are to fail.
 
-ghost use Rattle.std.specs.Prelude.{◌≡◌, ◌+◌, ◌-◌, ◌^◌, ◌<◌, ◌≤◌, ◌↔◌, ◌++◌, [], length, take, min, IsTrue, IsErr, IfOk, OnOk, OnErr, Contains, Some};
+ghost use Rattle.std.specs.Prelude.{◌≡◌, ◌+◌, ◌-◌, ◌^◌, ◌<◌, ◌≤◌, ◌↔◌, ◌++◌, [], length, take, min};
+ghost use Rattle.std.specs.Prelude.{IsTrue, IsErr, IfOk, OnOk, OnErr, Contains, None, Some};
 ghost use Rattle.cyg_io.specs.Counts.{NeverFalls, RoseBy};
 ghost use Rattle.cyg_io.specs.States.{next_call, IsRefused};
 
@@ -182,6 +183,8 @@ impl MemSink {
 
 impl Sink for MemSink {
     ghost held = { λ s. Some s.held };
+
+    ghost pieces = { λ _. None };
 
     ghost faults = { λ s. s.faults };
 

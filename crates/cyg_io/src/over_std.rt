@@ -1,4 +1,4 @@
-//! A reader and a writer of std as a source and a sink. What bytes they move is not told: they are trusted.
+//! A reader and a writer of std as a source and a sink. They tell of their bytes what std's reader and writer tell.
 
 ghost use Rattle.std.specs.Prelude.{◌≡◌, None};
 
@@ -7,8 +7,8 @@ use crate::source::{ReadFailed, Source};
 use std::io::{Read, Write};
 use std::marker::Model;
 
-/// A reader as a source. Each error of the reader counts as a fault. A contract sees the counts of faults,
-/// of bytes given and of ends.
+/// A reader as a source. Each error of the reader counts as a fault, also an interruption. A contract sees the reader,
+/// and the counts of faults, of bytes given and of ends. The bytes left are those that the reader tells.
 #[derive(Debug, Drop)]
 pub struct StdSource<R> {
     reader: R,
@@ -19,11 +19,11 @@ pub struct StdSource<R> {
 
 impl<R> Model for StdSource<R> {
     ghost use Rattle.std.specs.Prelude.{◌<◌, ◌^◌};
-    ghost use Rattle.cyg_io.specs.States.{SourceCounts};
+    ghost use Rattle.cyg_io.specs.States.{CountingReader};
 
-    ghost Value = { SourceCounts };
+    ghost Value = { CountingReader R };
 
-    ghost view = { λ s. record { faults = s.faults; given = s.given; ends = s.ends } };
+    ghost view = { λ s. record { reader = s.reader; faults = s.faults; given = s.given; ends = s.ends } };
 
     ghost invariant = { λ s. (s.faults < 2 ^ 64) × (s.given < 2 ^ 64) × (s.ends < 2 ^ 64) };
 }
@@ -31,6 +31,7 @@ impl<R> Model for StdSource<R> {
 impl<R: Read> StdSource<R> {
     /// Gives what the reader reads.
     pub fn new(reader: R) -> StdSource<R>
+        ensures reader { result.reader ≡ reader }
         ensures faults { result.faults ≡ 0 }
         ensures given { result.given ≡ 0 }
         ensures ends { result.ends ≡ 0 }
@@ -45,7 +46,7 @@ impl<R: Read> StdSource<R> {
 }
 
 impl<R: Read> Source for StdSource<R> {
-    ghost remaining = { λ _. None };
+    ghost remaining = { λ s. R.remaining s.reader };
 
     ghost faults = { λ s. s.faults };
 
@@ -71,7 +72,8 @@ impl<R: Read> Source for StdSource<R> {
 }
 
 /// A writer as a sink. Each error of the writer counts as a fault, and so does a write that takes no byte
-/// of a piece that is not empty. A contract sees the count of faults.
+/// of a piece that is not empty. A contract sees the writer and the count of faults. The bytes held are those that the
+/// writer tells.
 #[derive(Debug, Drop)]
 pub struct StdSink<W> {
     writer: W,
@@ -79,11 +81,12 @@ pub struct StdSink<W> {
 }
 
 impl<W> Model for StdSink<W> {
-    ghost use Rattle.std.specs.Prelude.{ℕ, ◌<◌, ◌^◌};
+    ghost use Rattle.std.specs.Prelude.{◌<◌, ◌^◌};
+    ghost use Rattle.cyg_io.specs.States.{CountingWriter};
 
-    ghost Value = { ℕ };
+    ghost Value = { CountingWriter W };
 
-    ghost view = { λ s. s.faults };
+    ghost view = { λ s. record { writer = s.writer; faults = s.faults } };
 
     ghost invariant = { λ s. s.faults < 2 ^ 64 };
 }
@@ -91,16 +94,19 @@ impl<W> Model for StdSink<W> {
 impl<W: Write> StdSink<W> {
     /// Writes to the writer.
     pub fn new(writer: W) -> StdSink<W>
-        ensures { result ≡ 0 }
+        ensures writer { result.writer ≡ writer }
+        ensures faults { result.faults ≡ 0 }
     {
         StdSink { writer, faults: 0 }
     }
 }
 
 impl<W: Write> Sink for StdSink<W> {
-    ghost held = { λ _. None };
+    ghost held = { λ s. W.contents s.writer };
 
-    ghost faults = { λ s. s };
+    ghost pieces = { λ _. None };
+
+    ghost faults = { λ s. s.faults };
 
     fn write(&mut self, piece: &[u8]) -> Result<usize, WriteFailed> {
         match self.writer.write(piece) {

@@ -1,8 +1,9 @@
 //! Where bytes come from, and the reading of all of them.
 
-ghost use Rattle.std.specs.Prelude.{◌≡◌, ◌+◌, ◌<◌, ◌≤◌, ◌↔◌, ℕ, List, [], Option, length, take, vec_len, IfOk, OnOk, OnErr, IfSome, IsErrOf};
-ghost use Rattle.std.specs.Io.KnownBytes.{Consumes};
-ghost use Rattle.cyg_io.specs.Counts.{NeverFalls, Rose, RoseBy};
+ghost use Rattle.std.specs.Prelude.{◌≡◌, ◌+◌, ◌<◌, ◌≤◌, ◌↔◌, ℕ, List, [], Option, length, take, vec_len};
+ghost use Rattle.std.specs.Prelude.{IfOk, OnOk, OnErr, IfSome, IsErrOf};
+ghost use Rattle.std.specs.Io.KnownBytes.{Consumes, Keeps};
+ghost use Rattle.cyg_io.specs.Counts.{NeverFalls, RoseBy};
 ghost use Rattle.cyg_io.specs.Source.{Draws, DrawsUpTo};
 
 use std::alloc::Global;
@@ -38,10 +39,11 @@ pub trait Source {
         ensures gave { IfOk result (λ n. RoseBy n (given self.old) (given self.new)) }
         ensures ended { IfOk result (λ n. n ≡ 0 → RoseBy 1 (ends self.old) (ends self.new)) }
         ensures goes_on { IfOk result (λ n. 0 < n → ends self.new ≡ ends self.old) }
+        ensures no_fault { OnOk result (faults self.new ≡ faults self.old) }
 
-        // It fails only where it had a fault, and then gives nothing.
-        ensures failed { OnErr result (Rose (faults self.old) (faults self.new)) }
-        ensures same_bytes { OnErr result (remaining self.new ≡ remaining self.old) }
+        // It fails only with a fault, and then gives nothing.
+        ensures failed { OnErr result (RoseBy 1 (faults self.old) (faults self.new)) }
+        ensures same_bytes { OnErr result (Keeps (remaining self.old) (remaining self.new)) }
         ensures same_given { OnErr result (given self.new ≡ given self.old) }
         ensures same_ends { OnErr result (ends self.new ≡ ends self.old) }
 
@@ -73,15 +75,23 @@ pub fn read_all<S: Source>(alloc: Global, src: &mut S, most: usize) -> Result<Ve
     ensures bytes { IfOk result (λ v. IfSome (S.remaining src.old) (λ left. v.items ≡ left)) }
     ensures none_left { OnOk result (IfSome (S.remaining src.old) (λ _. S.remaining src.new ≡ Some [])) }
     ensures few { IfOk result (λ v. vec_len v ≤ most) }
-    ensures drawn { IfOk result (λ v. Draws (vec_len v) (S.remaining src.old) (S.remaining src.new) (S.given src.old) (S.given src.new)) }
+    ensures drawn { IfOk result (λ v. Draws (vec_len v)
+        (S.remaining src.old) (S.remaining src.new) (S.given src.old) (S.given src.new)) }
     ensures ended { OnOk result (RoseBy 1 (S.ends src.old) (S.ends src.new)) }
 
     // Large comes where one byte more was read than allowed, and each other answer where none was.
-    ensures large { IsErrOf result ReadAllFault.Large → Draws (most + 1) (S.remaining src.old) (S.remaining src.new) (S.given src.old) (S.given src.new) }
-    ensures read { IsErrOf result ReadAllFault.Read → DrawsUpTo most (S.remaining src.old) (S.remaining src.new) (S.given src.old) (S.given src.new) }
-    ensures memory { IsErrOf result ReadAllFault.Memory → DrawsUpTo most (S.remaining src.old) (S.remaining src.new) (S.given src.old) (S.given src.new) }
+    ensures large { IsErrOf result ReadAllFault.Large → Draws (most + 1)
+        (S.remaining src.old) (S.remaining src.new) (S.given src.old) (S.given src.new) }
+    ensures read { IsErrOf result ReadAllFault.Read → DrawsUpTo most
+        (S.remaining src.old) (S.remaining src.new) (S.given src.old) (S.given src.new) }
+    ensures memory { IsErrOf result ReadAllFault.Memory → DrawsUpTo most
+        (S.remaining src.old) (S.remaining src.new) (S.given src.old) (S.given src.new) }
 
-    ensures failed { IsErrOf result ReadAllFault.Read → Rose (S.faults src.old) (S.faults src.new) }
+    // Read comes with one fault, and each other answer with none. The end comes with Ok alone.
+    ensures failed { IsErrOf result ReadAllFault.Read → RoseBy 1 (S.faults src.old) (S.faults src.new) }
+    ensures no_fault { OnOk result (S.faults src.new ≡ S.faults src.old) }
+    ensures no_fault_large { IsErrOf result ReadAllFault.Large → S.faults src.new ≡ S.faults src.old }
+    ensures no_fault_memory { IsErrOf result ReadAllFault.Memory → S.faults src.new ≡ S.faults src.old }
     ensures not_ended { OnErr result (S.ends src.new ≡ S.ends src.old) }
     ensures faults_stay { NeverFalls (S.faults src.old) (S.faults src.new) }
 {

@@ -9,7 +9,7 @@ invariant-reading g l = record {
   given : g.S.Source.given l.src ≡ min
       (g.S.Source.given l.initial.src + vec_len l.bytes) (max (g.S.Source.given l.initial.src) (2 ^ 64 - 1));
   ends : g.S.Source.ends l.src ≡ g.S.Source.ends l.initial.src;
-  faults : g.S.Source.faults l.initial.src ≤ g.S.Source.faults l.src;
+  faults : g.S.Source.faults l.src ≡ g.S.Source.faults l.initial.src;
 }
 
 abbrev pub decreases-reading : goal.decreases-reading
