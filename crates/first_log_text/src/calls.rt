@@ -17,7 +17,7 @@ fn write_entry<K: Sink>(entry: &Entry, number: u16, sink: &mut K) -> Result<(), 
     ensures whole { OnOk result (Appends (K.held sink.old) (K.held sink.new) (line_by number entry.now.event)) }
     ensures failed { OnErr result (Rose (K.faults sink.old) (K.faults sink.new)) }
     ensures part { OnErr result (AppendsPart (K.held sink.old) (K.held sink.new) (line_by number entry.now.event)) }
-    ensures faults_stay { K.faults sink.old ≤ K.faults sink.new }
+    ensures no_fewer_faults { K.faults sink.old ≤ K.faults sink.new }
 {
     match line_of(entry, number) {
         Some(line) => write_all(sink, line.as_slice()),
@@ -30,7 +30,7 @@ fn write_lines_of<K: Sink>(entries: &[Entry], number: u16, sink: &mut K) -> Resu
     ensures whole { OnOk result (Appends (K.held sink.old) (K.held sink.new) (lines_by number entries.now)) }
     ensures failed { OnErr result (Rose (K.faults sink.old) (K.faults sink.new)) }
     ensures part { OnErr result (AppendsPart (K.held sink.old) (K.held sink.new) (lines_by number entries.now)) }
-    ensures faults_stay { K.faults sink.old ≤ K.faults sink.new }
+    ensures no_fewer_faults { K.faults sink.old ≤ K.faults sink.new }
 {
     for entry in entries {
         write_entry(entry, number, sink)?;
@@ -43,7 +43,7 @@ fn write_groups<K: Sink>(entries: &[Entry], sink: &mut K) -> Result<(), WriteFai
     ensures whole { OnOk result (Appends (K.held sink.old) (K.held sink.new) (lines_below 4002 entries.now)) }
     ensures failed { OnErr result (Rose (K.faults sink.old) (K.faults sink.new)) }
     ensures part { OnErr result (AppendsPart (K.held sink.old) (K.held sink.new) (lines_below 4002 entries.now)) }
-    ensures faults_stay { K.faults sink.old ≤ K.faults sink.new }
+    ensures no_fewer_faults { K.faults sink.old ≤ K.faults sink.new }
 {
     let mut number = next_number(entries, 0);
     while number < NUMBERS {
@@ -62,7 +62,7 @@ pub fn write_calls<K: Sink>(entries: &[Entry], end: End, sink: &mut K) -> Result
     ensures whole { OnOk result (Appends (K.held sink.old) (K.held sink.new) (calls_log entries.now end)) }
     ensures failed { OnErr result (Rose (K.faults sink.old) (K.faults sink.new)) }
     ensures part { OnErr result (AppendsPart (K.held sink.old) (K.held sink.new) (calls_log entries.now end)) }
-    ensures faults_stay { K.faults sink.old ≤ K.faults sink.new }
+    ensures no_fewer_faults { K.faults sink.old ≤ K.faults sink.new }
 {
     write_all(sink, b"log calls\n")?;
     write_groups(entries, sink)?;
