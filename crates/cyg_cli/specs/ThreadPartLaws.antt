@@ -255,7 +255,13 @@ image_is_ignored p q o n x s r a other g =
       event = g.event ∙ alike.event;
     }
 
+-- a part by its fields
+part_of : (slot thread : ℕ) → Step → ThreadPart
+part_of slot thread s = record { slot = slot; thread = thread; step = s }
+
 -- one part begins a thread of a slot
 pub is_alone : (p q : ThreadPart) → p.step ≡ step.Start → q.step ≡ step.Start → p.slot ≡ q.slot
     → p.thread ≡ q.thread → p ≡ q
-is_alone p q starts begins slot thread = cc (starts, begins, slot, thread)
+is_alone p q starts begins slot thread =
+    ap (λ s. part_of s p.thread p.step) slot ∙ ap (λ t. part_of q.slot t p.step) thread
+    ∙ ap (λ x. part_of q.slot q.thread x) (starts ∙ sym begins)
