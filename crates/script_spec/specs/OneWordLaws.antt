@@ -34,7 +34,7 @@ decimal_no_r n lt =
     (λ k ds ten ih t. ap begins_with_r (append_assoc ds ((48 + k % 10) ∷ []) t) ∙ ih ((48 + k % 10) ∷ t))
     n lt []
 
-signed_no_r : (z : ℤ) → is_32_bits z ≡ true → begins_with_r (signed_decimal z) ≡ false
+pub signed_no_r : (z : ℤ) → is_32_bits z ≡ true → begins_with_r (signed_decimal z) ≡ false
 signed_no_r (pos n) h = let a : n ≤ 2147483647 = leb-true n 2147483647 h in decimal_no_r n (omega arith)
 signed_no_r (negsuc n) h = refl
 
