@@ -4,6 +4,7 @@ use Rattle.std.proofs.Common.{None, refl, arith}
 use Rattle.std.specs.Prelude.{codes}
 use Rattle.std.specs.Fmt.{decimal}
 use Rattle.std.proofs.lemmas.Bool.{and_parts, ltb-true, lt-leb}
+use Rattle.w32_base.specs.Name.{is_name}
 use Rattle.w32_base.specs.Targets.{is_target_below, is_handler_below}
 use Rattle.w32_base.specs.declared.instr.Action.{Action}
 use Rattle.w32_base.specs.declared.instr.Action.TheVariants as action
@@ -52,6 +53,12 @@ two_values n u v h =
 one_value : (n : ℕ) (v : Operand) → is_valid_operand v ≡ true
     → AreGood n ((ValueWord ∷ []) ∷ []) (operand_text v ∷ [])
 one_value n v h = of_form n (ValueWord ∷ []) [] (operand_text v ∷ []) (rw (operand_good v h) refl) refl
+
+one_register : (n r : ℕ) → nat_lt r 8 ≡ true → AreGood n ((RegisterWord ∷ []) ∷ []) (register_text r ∷ [])
+one_register n r h = of_form n (RegisterWord ∷ []) [] (register_text r ∷ []) (rw (register_good r h) refl) refl
+
+one_name : (n : ℕ) (name : List ℕ) → is_name name ≡ true → AreGood n ((NameWord ∷ []) ∷ []) (name ∷ [])
+one_name n name h = of_form n (NameWord ∷ []) [] (name ∷ []) (rw (name_good name h) refl) refl
 
 place_good : (n place : ℕ) → n ≤ 4000 → nat_lt place n ≡ true
     → number_fault 0 18446744073709551615 (decimal place) ≡ None
@@ -172,15 +179,17 @@ instr_spelled n (instr.TcSet v) few h k =
 instr_spelled n (instr.TtyFlags v) few h k =
     spelled n (instr.TtyFlags v) word.TtyFlags (operand_text v ∷ []) refl (one_value n v h)
 instr_spelled n (instr.Pop r) few h k =
-    spelled n (instr.Pop r) word.Pop (register_text r ∷ []) refl (of_form n (RegisterWord ∷ []) [] (register_text r ∷ []) (rw (register_good r h) refl) refl)
+    spelled n (instr.Pop r) word.Pop (register_text r ∷ []) refl (one_register n r h)
 instr_spelled n (instr.Jump place) few h k =
     spelled n (instr.Jump place) word.Jump (decimal place ∷ []) refl (one_place n place few k)
 instr_spelled n (instr.JumpZero v place) few h k =
-    spelled n (instr.JumpZero v place) word.JumpZero (operand_text v ∷ decimal place ∷ []) refl (value_place n v place few h k)
+    spelled n (instr.JumpZero v place) word.JumpZero (operand_text v ∷ decimal place ∷ []) refl
+    (value_place n v place few h k)
 instr_spelled n (instr.JumpNegative v place) few h k =
-    spelled n (instr.JumpNegative v place) word.JumpNegative (operand_text v ∷ decimal place ∷ []) refl (value_place n v place few h k)
+    spelled n (instr.JumpNegative v place) word.JumpNegative (operand_text v ∷ decimal place ∷ []) refl
+    (value_place n v place few h k)
 instr_spelled n (instr.Exec name) few h k =
-    spelled n (instr.Exec name) word.Exec (name ∷ []) refl (of_form n (NameWord ∷ []) [] (name ∷ []) (rw (name_good name h) refl) refl)
+    spelled n (instr.Exec name) word.Exec (name ∷ []) refl (one_name n name h)
 instr_spelled n (instr.Action v a) few h k =
     spelled n (instr.Action v a) word.Action (operand_text v ∷ action_words a) refl (action_good n v a few h k)
 instr_spelled n (instr.Mask c v) few h k =
