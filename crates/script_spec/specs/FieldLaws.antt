@@ -112,6 +112,9 @@ unsigned (d ∷ ds) h =
     let e = no_sign d (and_parts (is_digit d) (list_all is_digit ds) p.0).0 in
     (rw e refl, e)
 
+pub decimal-unsigned : (n : ℕ) → n < 2 ^ 64 → has_sign (decimal n) ≡ false
+decimal-unsigned n lt = (unsigned (decimal n) (decimal-canonical n lt)).1
+
 pub signed_good : (z : ℤ) → is_32_bits z ≡ true → signed_fault (signed_decimal z) ≡ None
 signed_good (pos n) h =
     let few : n ≤ 2147483647 = leb-true n 2147483647 h in
