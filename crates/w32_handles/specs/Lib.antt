@@ -1,3 +1,5 @@
 pub mod Places
 pub mod Table
 pub mod Lends
+pub mod Shown
+pub mod ShownLaws

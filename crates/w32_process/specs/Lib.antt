@@ -3,3 +3,13 @@ pub mod Table
 pub mod Sound
 pub mod Lends
 pub mod Processes
+pub mod KeptLaws
+pub mod SoundLaws
+pub mod ProcessLaws
+pub mod TableLaws
+pub mod FoundLaws
+pub mod ThreadLaws
+pub mod ChangeLaws
+pub mod MadeLaws
+pub mod EndLaws
+pub mod ForgetLaws

@@ -18,10 +18,9 @@ threads_from posted t [] = []
 threads_from posted t (count ∷ counts) =
     record { number = t; suspended = count; posted = posted t } ∷ threads_from posted (t + 1) counts
 
--- the processes that are kept after their ends
-abbrev pub kept_processes : List Kept → List Process
-kept_processes [] = []
-kept_processes (e ∷ es) = insert_process record {
+-- a process that is kept after its end
+abbrev pub kept_process : Kept → Process
+kept_process e = record {
   number = e.number;
   slot = e.slot;
   program = e.program;
@@ -30,14 +29,18 @@ kept_processes (e ∷ es) = insert_process record {
   handles = [];
   own = no_memory;
   placed = [];
-} (kept_processes es)
+}
+
+-- those that are kept
+abbrev pub kept_processes : List Kept → List Process
+kept_processes [] = []
+kept_processes (e ∷ es) = insert_process (kept_process e) (kept_processes es)
 
 -- What is known of a slot beside the table: each thread's posted call, and the modules that are placed.
 module _ (posted : ℕ → ℕ → Call) (placed : ℕ → List PlacedModule) where
-  -- with the process of a slot, where it has one
-  abbrev pub with_process_in : ℕ → Place → Option ℕ → List Process → List Process
-  with_process_in slot place None ps = ps
-  with_process_in slot place (Some w) ps = insert_process record {
+  -- the live process with this number in a slot
+  abbrev pub live_process : (slot w : ℕ) → Place → Process
+  live_process slot w place = record {
     number = w;
     slot = slot;
     program = place.program;
@@ -46,7 +49,12 @@ module _ (posted : ℕ → ℕ → Call) (placed : ℕ → List PlacedModule) wh
     handles = place.handles;
     own = place.own;
     placed = placed slot;
-  } ps
+  }
+
+  -- with the process of a slot, where it has one
+  abbrev pub with_process_in : ℕ → Place → Option ℕ → List Process → List Process
+  with_process_in slot place None ps = ps
+  with_process_in slot place (Some w) ps = insert_process (live_process slot w place) ps
 
   -- with the processes of the slots from one on
   abbrev pub with_processes_from : ℕ → List Place → List Process → List Process

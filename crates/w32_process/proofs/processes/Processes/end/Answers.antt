@@ -1,6 +1,6 @@
 use Rattle.std.proofs.Common.{◌≡◌, ◌<◌, length, ap, ◌∙◌, sym, refl, arith, Some}
 use Rattle.w32_process.specs.Table.{Table, number_at}
-use Rattle.w32_process.proofs.NumberLemmas.{IsSound-end}
+use Rattle.w32_process.specs.SoundLaws.{IsSound-end}
 use Rattle.w32_process.proofs.SeatLemmas.{within_at, seat_number}
 use Rattle.w32_process.proofs.processes.Processes.end.Goals as goal
 

@@ -1,7 +1,7 @@
 use Rattle.std.proofs.Common.{◌≡◌, ◌∙◌, arith}
 use Rattle.w32_process.specs.Table.{without_kept}
-use Rattle.w32_process.proofs.KeptLemmas.{code_of-without_same}
-use Rattle.w32_process.proofs.NumberLemmas.{IsSound-forget}
+use Rattle.w32_process.specs.KeptLaws.{code_of-without_same}
+use Rattle.w32_process.specs.SoundLaws.{IsSound-forget}
 use Rattle.w32_process.proofs.processes.Processes.forget.Goals as goal
 
 pub invariant_of-self : goal.invariant_of-self

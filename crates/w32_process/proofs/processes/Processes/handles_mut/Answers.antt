@@ -1,6 +1,6 @@
 use Rattle.std.proofs.Common.{◌<◌, length, ap}
 use Rattle.w32_process.specs.Table.{Table}
-use Rattle.w32_process.proofs.NumberLemmas.{IsSound-same}
+use Rattle.w32_process.specs.SoundLaws.{IsSound-same}
 use Rattle.w32_process.proofs.SeatLemmas.{within_at, seat_number}
 use Rattle.w32_process.proofs.processes.Processes.handles_mut.Goals as goal
 

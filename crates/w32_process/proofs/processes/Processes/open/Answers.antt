@@ -1,5 +1,5 @@
 use Rattle.std.proofs.Common.{arith}
-use Rattle.w32_process.proofs.NumberLemmas.{IsSound-opening}
+use Rattle.w32_process.specs.SoundLaws.{IsSound-opening}
 use Rattle.w32_process.proofs.processes.Processes.open.Goals as goal
 
 pub invariant_of-result : goal.invariant_of-result

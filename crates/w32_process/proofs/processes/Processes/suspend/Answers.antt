@@ -1,7 +1,7 @@
 use Rattle.std.proofs.Common.{◌<◌, length, ap, ◌∙◌}
 use Rattle.w32_process.specs.Places.{Place}
 use Rattle.w32_process.specs.Table.{Table}
-use Rattle.w32_process.proofs.NumberLemmas.{IsSound-same}
+use Rattle.w32_process.specs.SoundLaws.{IsSound-same}
 use Rattle.w32_process.proofs.SeatLemmas.{counted_at, seat_number}
 use Rattle.w32_process.proofs.processes.Processes.suspend.Goals as goal
 

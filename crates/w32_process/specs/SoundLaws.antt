@@ -7,8 +7,8 @@ use Rattle.w32_process.specs.declared.kept.Kept.{Kept}
 use Rattle.w32_process.specs.Places.{Place, empty_place, host_place}
 use Rattle.w32_process.specs.Table.{number_at, code_of, without_kept}
 use Rattle.w32_process.specs.Sound.{IsSound}
-use Rattle.w32_process.proofs.KeptLemmas.{code_of-push_other, code_of-push_cases, AreDistinct-push}
-use Rattle.w32_process.proofs.KeptLemmas.{code_of-without_none, AreDistinct-without}
+use Rattle.w32_process.specs.KeptLaws.{code_of-push_other, code_of-push_cases, AreDistinct-push}
+use Rattle.w32_process.specs.KeptLaws.{code_of-without_none, AreDistinct-without}
 
 -- the number in the slot that is changed, and in the others
 pub number_at-set_same : (slots : List Place) (slot : ℕ) (place : Place) → slot < length slots
@@ -21,7 +21,7 @@ pub number_at-set_other : (slots : List Place) (slot k : ℕ) (place : Place) �
 number_at-set_other slots slot k place other = ap (λ (p : Place). p.number) (get_or-set_other slots slot k place
     empty_place other)
 
-number_at-set_kept : (slots : List Place) (slot k : ℕ) (place : Place) → slot < length slots
+pub number_at-set_kept : (slots : List Place) (slot k : ℕ) (place : Place) → slot < length slots
     → place.number ≡ number_at slots slot → number_at (set slots slot place) k ≡ number_at slots k
 number_at-set_kept slots slot k place within kept =
     elim (cases_eq k slot) [
@@ -136,3 +136,9 @@ IsSound-opening count some few = record {
     alone zero zero n e f = refl
     alone zero (suc j) n e f = none_is_no_number n _ (number_at-empty count j) f
     alone (suc k) j n e f = none_is_no_number n _ (number_at-empty count k) e
+
+-- a slot with a process is one of the table
+pub within_slots : (slots : List Place) (slot w : ℕ) → number_at slots slot ≡ Some w → slot < length slots
+within_slots [] slot w at = absurd (let e : None ≡ Some w = at in cc)
+within_slots (p ∷ ps) zero w at = omega arith
+within_slots (p ∷ ps) (suc slot) w at = omega (arith, within_slots ps slot w at)
