@@ -3,3 +3,4 @@ pub mod Table
 pub mod Lends
 pub mod Shown
 pub mod ShownLaws
+pub mod PlaceLaws
