@@ -4,3 +4,5 @@ pub mod Lends
 pub mod Shown
 pub mod ShownLaws
 pub mod PlaceLaws
+pub mod Counted
+pub mod CountLaws
