@@ -6,3 +6,4 @@ pub mod ShownLaws
 pub mod PlaceLaws
 pub mod Counted
 pub mod CountLaws
+pub mod BoundLaws
