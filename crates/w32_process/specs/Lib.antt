@@ -13,3 +13,4 @@ pub mod ChangeLaws
 pub mod MadeLaws
 pub mod EndLaws
 pub mod ForgetLaws
+pub mod SweepLaws
