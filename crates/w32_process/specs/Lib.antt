@@ -14,3 +14,4 @@ pub mod MadeLaws
 pub mod EndLaws
 pub mod ForgetLaws
 pub mod SweepLaws
+pub mod CloseLaws
