@@ -15,3 +15,4 @@ pub mod EndLaws
 pub mod ForgetLaws
 pub mod SweepLaws
 pub mod CloseLaws
+pub mod ClosedLaws
