@@ -16,3 +16,4 @@ pub mod ForgetLaws
 pub mod SweepLaws
 pub mod CloseLaws
 pub mod ClosedLaws
+pub mod ClosingLaws
