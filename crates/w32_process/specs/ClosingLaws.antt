@@ -3,14 +3,16 @@ use Rattle.std.proofs.Common.{◌≡◌, ◌≢◌, ◌⊎◌, inl, inr, ℕ, Bo
 use Rattle.std.proofs.Common.{Option, Some, None, refl, sym, ap, ◌∙◌, subst}
 use Rattle.std.proofs.lemmas.Bool.{cases_eq}
 use Rattle.win32_spec.specs.Handles.{Handle, handle_of, AreRisingFrom}
-use Rattle.win32_spec.specs.State.{NumberedObject, Process}
+use Rattle.win32_spec.specs.State.{ProcessObject, NumberedObject, Process}
 use Rattle.win32_spec.specs.Lookup.{is_alive, process_of, object_of, change_process}
 use Rattle.win32_spec.specs.Ends.{is_object_held, held_objects, is_process_held, kept_processes}
 use Rattle.win32_spec.specs.WellFormed.{AreRisingProcesses, AreRisingObjects}
 use Rattle.win32_spec.specs.LookupLaws.{same_some, process_of-change_same, process_of-change_other}
 use Rattle.win32_spec.specs.LookupLaws.{changed_process, rising-change_process}
+use Rattle.win32_spec.specs.HeldLaws.{held_object, held_object-stays, process_held-by, is-process_held}
 use Rattle.win32_spec.specs.HeldLaws.{HaveRisingHandles, rising-held, rising-kept}
 use Rattle.w32_handles.specs.ShownLaws.{FindsObjects, same_objects}
+use Rattle.w32_process.specs.ProcessLaws.{Finds, same_processes}
 use Rattle.w32_process.specs.SweepLaws.{object_kept, process_kept_by, found-held, found-kept, held-over}
 
 -- the same truth value
@@ -201,3 +203,50 @@ module _ (next : ℕ) (ps : List Process) (xs : List NumberedObject) (w : ℕ) (
             ∙ ap (λ a. object_kept a (object_kept (is_object_held (with_hs hs) o) (object_of xs o))) (same_held o)
             ∙ by_test o (is_object_held (with_hs fewer) o) (is_object_held (with_hs hs) o) refl refl
             ∙ sym (found-held (with_hs fewer) xs o)
+
+    -- an object that the fewer hold is one that more hold
+    still_listed : (v : ℕ) → is_process_held (held fewer) v ≡ true → is_process_held os v ≡ true
+    still_listed v e =
+        let at = process_held-by 0 (held fewer) v (rising-held (with_hs fewer) 0 xs objects) e in
+        let both = held_object (with_hs fewer) xs at.0 (ProcessObject v) at.1 in
+        is-process_held os v at.0
+        (held_object-stays (with_hs hs) xs at.0 (ProcessObject v) both.0 (holds-more at.0 both.1))
+
+    pub later-processes : kept_processes (held fewer) later ≡ kept_processes (held fewer) (with_hs fewer)
+    later-processes =
+        same_processes 1 next 1 next (kept_processes (held fewer) later) (kept_processes (held fewer) (with_hs fewer))
+        (rising-kept (held fewer) 1 next later rising_then)
+        (rising-kept (held fewer) 1 next (with_hs fewer) (rising-with_hs fewer)) finds
+      where
+        by_life : (v : ℕ) (x : Process) (alive a b : Bool) → is_alive x.life ≡ alive
+            → is_process_held (held fewer) v ≡ a → is_process_held os v ≡ b
+            → process_kept_by a (if alive || b then Some x else None) ≡ (if alive || a then Some x else None)
+        by_life v x true a b l e f = ap (λ (c : Bool). if c || a then Some x else None) l
+        by_life v x false true true l e f = ap (λ (c : Bool). if c || true then Some x else None) l
+        by_life v x false false true l e f = ap (λ (c : Bool). if c || false then Some x else None) l
+        by_life v x false true false l e f = absurd (let g : false ≡ true = sym f ∙ still_listed v e in cc)
+        by_life v x false false false l e f = refl
+
+        by_old : (v : ℕ) (o : Option Process)
+            → process_kept_by (is_process_held (held fewer) v) (process_kept_by (is_process_held os v) o) ≡
+            process_kept_by (is_process_held (held fewer) v) o
+        by_old v None = refl
+        by_old v (Some x) =
+            by_life v x (is_alive x.life) (is_process_held (held fewer) v) (is_process_held os v) refl refl refl
+
+        what : (v : ℕ) → process_kept_by (is_process_held (held fewer) v) (process_of later v) ≡
+            process_kept_by (is_process_held (held fewer) v) (process_of (with_hs fewer) v)
+        what v =
+            elim (cases_eq v w) [
+              | inl n ↦ ap (process_kept_by (is_process_held (held fewer) v))
+                  (ap (process_of later) n ∙ later_here ∙ sym (found-here fewer)
+                  ∙ ap (process_of (with_hs fewer)) (sym n))
+              | inr d ↦ ap (process_kept_by (is_process_held (held fewer) v)) (later_aside v d)
+                  ∙ by_old v (process_of ps v)
+                  ∙ ap (process_kept_by (is_process_held (held fewer) v)) (sym (found-aside fewer v d))
+            ]
+
+        finds : Finds (kept_processes (held fewer) later) (kept_processes (held fewer) (with_hs fewer))
+        finds v =
+            found-kept (held fewer) 1 next later rising_then v ∙ what v
+            ∙ sym (found-kept (held fewer) 1 next (with_hs fewer) (rising-with_hs fewer) v)
