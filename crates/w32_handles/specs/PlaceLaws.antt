@@ -3,7 +3,7 @@ use Rattle.std.proofs.Common.{◌≡◌, ◌≢◌, inl, inr, ℕ, zero, suc, �
 use Rattle.std.proofs.Common.{slice_index_or, slice_set, refl, sym, ap, ◌∙◌, subst, arith, true≢false}
 use Rattle.std.proofs.lemmas.Bool.{cases_eq}
 use Rattle.std.proofs.lemmas.List.{get_or-set_other}
-use Rattle.win32_spec.specs.State.{Object, Win32State}
+use Rattle.win32_spec.specs.State.{Object, NumberedObject, Win32State}
 use Rattle.win32_spec.specs.Lookup.{object_number, object_of, change_object, add_object, IsFresh}
 use Rattle.win32_spec.specs.Ends.{object_left_by, objects_left_by}
 use Rattle.win32_spec.specs.ObjectLaws.{object_of-change_same, object_of-change_other, rising-change_object}
@@ -35,6 +35,22 @@ module _ {K : Type 0} where
     here = place_within t.places (o / 2) (instead object (object_at t o)) some;
     others = λ other d. get_or-set_other t.places (o / 2) (other / 2) (instead object (object_at t o)) None d;
   }
+
+-- what the end of process w leaves of each object
+abbrev pub left_shown : ℕ → Option Object → Option Object
+left_shown w None = None
+left_shown w (Some x) = Some (object_left_by w x)
+
+pub found-left : (w : ℕ) (xs : List NumberedObject) (o : ℕ)
+    → object_of (objects_left_by w xs) o ≡ left_shown w (object_of xs o)
+found-left w xs o = by_answer (object_of xs o) refl (object_of (objects_left_by w xs) o) refl
+  where
+    by_answer : (old : Option Object) → object_of xs o ≡ old → (found : Option Object)
+        → object_of (objects_left_by w xs) o ≡ found → found ≡ left_shown w old
+    by_answer (Some x) e found g = sym g ∙ object_of-left w xs o x e
+    by_answer None e None g = refl
+    by_answer None e (Some y) g =
+        let l = left_object w xs o y g in absurd (let h : None ≡ Some l.0 = sym e ∙ l.1 in cc)
 
 module _ {K : Type 0} (f : K → Object) where
   -- what is found by twice a place after a change: what was put there, or what stood there
@@ -154,11 +170,6 @@ module _ {K : Type 0} (f : K → Object) where
                 ∙ sym (object_of-without_other (object_number o) (objects_of f old.places) (2 * k) d)
           ]
 
-  -- what the end of process w leaves of each object
-  abbrev pub left_shown : ℕ → Option Object → Option Object
-  left_shown w None = None
-  left_shown w (Some x) = Some (object_left_by w x)
-
   pub objects-left : (w : ℕ) (old new : Table K)
       → ((k : ℕ) → object_shown f (object_at new (2 * k)) ≡ left_shown w (object_shown f (object_at old (2 * k))))
       → objects_of f new.places ≡ objects_left_by w (objects_of f old.places)
@@ -166,21 +177,9 @@ module _ {K : Type 0} (f : K → Object) where
       are_same f (objects_of f new.places) (objects_left_by w (objects_of f old.places))
       (rising-objects f new.places) (rising-left w 0 (objects_of f old.places) (rising-objects f old.places)) finds
     where
-      after : (o : ℕ) (found : Option Object) → object_of (objects_of f old.places) o ≡ found
-          → object_of (objects_left_by w (objects_of f old.places)) o ≡ left_shown w found
-      after o (Some x) e = object_of-left w (objects_of f old.places) o x e
-      after o None e = by_answer (object_of (objects_left_by w (objects_of f old.places)) o) refl
-        where
-          by_answer : (found : Option Object) → object_of (objects_left_by w (objects_of f old.places)) o ≡ found
-              → found ≡ None
-          by_answer None g = refl
-          by_answer (Some y) g =
-              let l = left_object w (objects_of f old.places) o y g in
-              absurd (let h : None ≡ Some l.0 = sym e ∙ l.1 in cc)
-
       finds : (k : ℕ) → object_of (objects_of f new.places) (2 * k) ≡
           object_of (objects_left_by w (objects_of f old.places)) (2 * k)
       finds k =
           object_of-place f new.places k ∙ ap (object_shown f) (sym (at_place new k)) ∙ left k
-          ∙ sym (after (2 * k) (object_shown f (object_at old (2 * k)))
-          (object_of-place f old.places k ∙ ap (object_shown f) (sym (at_place old k))))
+          ∙ ap (left_shown w) (ap (object_shown f) (at_place old k) ∙ sym (object_of-place f old.places k))
+          ∙ sym (found-left w (objects_of f old.places) (2 * k))

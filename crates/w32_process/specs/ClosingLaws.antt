@@ -13,7 +13,7 @@ use Rattle.win32_spec.specs.HeldLaws.{held_object, held_object-stays, process_he
 use Rattle.win32_spec.specs.HeldLaws.{HaveRisingHandles, rising-held, rising-kept}
 use Rattle.w32_handles.specs.ShownLaws.{FindsObjects, same_objects}
 use Rattle.w32_process.specs.ProcessLaws.{Finds, same_processes}
-use Rattle.w32_process.specs.SweepLaws.{object_kept, process_kept_by, found-held, found-kept, held-over}
+use Rattle.w32_process.specs.SweepLaws.{object_kept, process_kept_by, found-held, found-kept, kept-twice, held-over}
 
 -- the same truth value
 same_bool : (a b : Bool) → (a ≡ true → b ≡ true) → (b ≡ true → a ≡ true) → a ≡ b
@@ -218,22 +218,6 @@ module _ (next : ℕ) (ps : List Process) (xs : List NumberedObject) (w : ℕ) (
         (rising-kept (held fewer) 1 next later rising_then)
         (rising-kept (held fewer) 1 next (with_hs fewer) (rising-with_hs fewer)) finds
       where
-        by_life : (v : ℕ) (x : Process) (alive a b : Bool) → is_alive x.life ≡ alive
-            → is_process_held (held fewer) v ≡ a → is_process_held os v ≡ b
-            → process_kept_by a (if alive || b then Some x else None) ≡ (if alive || a then Some x else None)
-        by_life v x true a b l e f = ap (λ (c : Bool). if c || a then Some x else None) l
-        by_life v x false true true l e f = ap (λ (c : Bool). if c || true then Some x else None) l
-        by_life v x false false true l e f = ap (λ (c : Bool). if c || false then Some x else None) l
-        by_life v x false true false l e f = absurd (let g : false ≡ true = sym f ∙ still_listed v e in cc)
-        by_life v x false false false l e f = refl
-
-        by_old : (v : ℕ) (o : Option Process)
-            → process_kept_by (is_process_held (held fewer) v) (process_kept_by (is_process_held os v) o) ≡
-            process_kept_by (is_process_held (held fewer) v) o
-        by_old v None = refl
-        by_old v (Some x) =
-            by_life v x (is_alive x.life) (is_process_held (held fewer) v) (is_process_held os v) refl refl refl
-
         what : (v : ℕ) → process_kept_by (is_process_held (held fewer) v) (process_of later v) ≡
             process_kept_by (is_process_held (held fewer) v) (process_of (with_hs fewer) v)
         what v =
@@ -242,7 +226,7 @@ module _ (next : ℕ) (ps : List Process) (xs : List NumberedObject) (w : ℕ) (
                   (ap (process_of later) n ∙ later_here ∙ sym (found-here fewer)
                   ∙ ap (process_of (with_hs fewer)) (sym n))
               | inr d ↦ ap (process_kept_by (is_process_held (held fewer) v)) (later_aside v d)
-                  ∙ by_old v (process_of ps v)
+                  ∙ kept-twice (is_process_held (held fewer) v) (is_process_held os v) (still_listed v) (process_of ps v)
                   ∙ ap (process_kept_by (is_process_held (held fewer) v)) (sym (found-aside fewer v d))
             ]
 

@@ -25,6 +25,20 @@ abbrev pub process_kept_by : Bool → Option Process → Option Process
 process_kept_by held None = None
 process_kept_by held (Some p) = if is_alive p.life || held then Some p else None
 
+-- what is kept of what was kept by more
+pub kept-twice : (a b : Bool) → (a ≡ true → b ≡ true) → (o : Option Process)
+    → process_kept_by a (process_kept_by b o) ≡ process_kept_by a o
+kept-twice a b more None = refl
+kept-twice a b more (Some p) = by_life a b more (is_alive p.life) refl
+  where
+    by_life : (a b : Bool) → (a ≡ true → b ≡ true) → (alive : Bool) → is_alive p.life ≡ alive
+        → process_kept_by a (if alive || b then Some p else None) ≡ (if alive || a then Some p else None)
+    by_life a b more true l = ap (λ (c : Bool). if c || a then Some p else None) l
+    by_life true true more false l = ap (λ (c : Bool). if c || true then Some p else None) l
+    by_life false true more false l = ap (λ (c : Bool). if c || false then Some p else None) l
+    by_life true false more false l = absurd (let g : false ≡ true = more refl in cc)
+    by_life false false more false l = refl
+
 pub found-held : (ps : List Process) (xs : List NumberedObject) (o : ℕ)
     → object_of (held_objects ps xs) o ≡ object_kept (is_object_held ps o) (object_of xs o)
 found-held ps xs o =
@@ -152,11 +166,15 @@ is_process_held-gone low xs gone v r only = by_test (is_process_held (without_ob
           | inr d ↦ d (only at.0 (sym (object_of-without_other gone xs at.0 d) ∙ at.1))
         ])
 
+-- each handle of a live process is one of a live process there too
+abbrev pub HandsOn : List Process → List Process → Type 0
+HandsOn ps qs = (v : ℕ) (p : Process) (k names : ℕ) → process_of ps v ≡ Some p → is_alive p.life ≡ true
+    → handle_of p.handles k ≡ Some names
+    → (q : Process) × (process_of qs v ≡ Some q) × (is_alive q.life ≡ true) × (handle_of q.handles k ≡ Some names)
+
 -- who holds an object, by what is found of the live processes
 pub held-over : (low next : ℕ) (ps qs : List Process) (o : ℕ) → AreRisingProcesses low next ps → HaveRisingHandles ps
-    → ((v : ℕ) (p : Process) (k names : ℕ) → process_of ps v ≡ Some p → is_alive p.life ≡ true
-    → handle_of p.handles k ≡ Some names
-    → (q : Process) × (process_of qs v ≡ Some q) × (is_alive q.life ≡ true) × (handle_of q.handles k ≡ Some names))
+    → HandsOn ps qs
     → is_object_held ps o ≡ true → is_object_held qs o ≡ true
 held-over low next ps qs o r rising over held =
     let at : IsHeldBy ps o = held-by low next ps o r rising held in
