@@ -16,7 +16,7 @@ use Rattle.w32_process.specs.ProcessLaws.{Finds, same_processes}
 use Rattle.w32_process.specs.SweepLaws.{object_kept, process_kept_by, found-held, found-kept, kept-twice, held-over}
 
 -- the same truth value
-same_bool : (a b : Bool) → (a ≡ true → b ≡ true) → (b ≡ true → a ≡ true) → a ≡ b
+pub same_bool : (a b : Bool) → (a ≡ true → b ≡ true) → (b ≡ true → a ≡ true) → a ≡ b
 same_bool true b f g = sym (f refl)
 same_bool false true f g = g refl
 same_bool false false f g = refl
@@ -29,14 +29,14 @@ AreAmong hs more = (k names : ℕ) → handle_of hs k ≡ Some names → handle_
 module _ (next : ℕ) (ps : List Process) (xs : List NumberedObject) (w : ℕ) (p : Process)
     (rising : AreRisingProcesses 1 next ps) (objects : AreRisingObjects 0 xs) (handles : HaveRisingHandles ps)
     (found : process_of ps w ≡ Some p) (alive : is_alive p.life ≡ true) where
-  abbrev with_hs : List Handle → List Process
+  abbrev pub with_hs : List Handle → List Process
   with_hs hs = change_process w (λ x. record x { handles = hs }) ps
 
-  abbrev held : List Handle → List NumberedObject
+  abbrev pub held : List Handle → List NumberedObject
   held hs = held_objects (with_hs hs) xs
 
   -- what is found of a process with these handles
-  found-with : (hs : List Handle) (v : ℕ) (q : Process) → process_of (with_hs hs) v ≡ Some q
+  pub found-with : (hs : List Handle) (v : ℕ) (q : Process) → process_of (with_hs hs) v ≡ Some q
       → ((v ≢ w) × (process_of ps v ≡ Some q)) ⊎ ((v ≡ w) × (q ≡ record p { handles = hs }))
   found-with hs v q e =
       elim (changed_process w (λ x. record x { handles = hs }) (λ x. refl) ps v q e) [
@@ -48,16 +48,16 @@ module _ (next : ℕ) (ps : List Process) (xs : List NumberedObject) (w : ℕ) (
         )
       ]
 
-  found-here : (hs : List Handle) → process_of (with_hs hs) w ≡ Some (record p { handles = hs })
+  pub found-here : (hs : List Handle) → process_of (with_hs hs) w ≡ Some (record p { handles = hs })
   found-here hs = process_of-change_same w (λ x. record x { handles = hs }) (λ x. refl) ps p found
 
-  found-aside : (hs : List Handle) (v : ℕ) → v ≢ w → process_of (with_hs hs) v ≡ process_of ps v
+  pub found-aside : (hs : List Handle) (v : ℕ) → v ≢ w → process_of (with_hs hs) v ≡ process_of ps v
   found-aside hs v d = process_of-change_other w (λ x. record x { handles = hs }) (λ x. refl) ps v d
 
-  rising-with_hs : (hs : List Handle) → AreRisingProcesses 1 next (with_hs hs)
+  pub rising-with_hs : (hs : List Handle) → AreRisingProcesses 1 next (with_hs hs)
   rising-with_hs hs = rising-change_process w (λ x. record x { handles = hs }) (λ x. refl) 1 next ps rising
 
-  handles-with : (hs : List Handle) → AreRisingFrom 1 hs → HaveRisingHandles (with_hs hs)
+  pub handles-with : (hs : List Handle) → AreRisingFrom 1 hs → HaveRisingHandles (with_hs hs)
   handles-with hs r v q e live =
       elim (found-with hs v q e) [
         | inl other ↦ handles v q other.1 live
@@ -67,7 +67,7 @@ module _ (next : ℕ) (ps : List Process) (xs : List NumberedObject) (w : ℕ) (
   module _ (hs fewer : List Handle) (r : AreRisingFrom 1 hs) (fewer_rising : AreRisingFrom 1 fewer)
       (among : AreAmong fewer hs) where
     -- what fewer handles hold, more hold
-    holds-more : (o : ℕ) → is_object_held (with_hs fewer) o ≡ true → is_object_held (with_hs hs) o ≡ true
+    pub holds-more : (o : ℕ) → is_object_held (with_hs fewer) o ≡ true → is_object_held (with_hs hs) o ≡ true
     holds-more o =
         held-over 1 next (with_hs fewer) (with_hs hs) o (rising-with_hs fewer) (handles-with fewer fewer_rising) over
       where
@@ -87,22 +87,22 @@ module _ (next : ℕ) (ps : List Process) (xs : List NumberedObject) (w : ℕ) (
             ]
 
     -- the state after the first, and the processes in it with the fewer
-    abbrev os : List NumberedObject
+    abbrev pub os : List NumberedObject
     os = held hs
 
-    abbrev mid : List Process
+    abbrev pub mid : List Process
     mid = kept_processes os (with_hs hs)
 
-    abbrev later : List Process
+    abbrev pub later : List Process
     later = change_process w (λ x. record x { handles = fewer }) mid
 
-    rising_mid : AreRisingProcesses 1 next mid
+    pub rising_mid : AreRisingProcesses 1 next mid
     rising_mid = rising-kept os 1 next (with_hs hs) (rising-with_hs hs)
 
     rising_then : AreRisingProcesses 1 next later
     rising_then = rising-change_process w (λ x. record x { handles = fewer }) (λ x. refl) 1 next mid rising_mid
 
-    mid_here : process_of mid w ≡ Some (record p { handles = hs })
+    pub mid_here : process_of mid w ≡ Some (record p { handles = hs })
     mid_here = found-kept os 1 next (with_hs hs) (rising-with_hs hs) w
         ∙ ap (process_kept_by (is_process_held os w)) (found-here hs)
         ∙ ap (λ (b : Bool). if b || is_process_held os w then Some (record p { handles = hs }) else None) alive

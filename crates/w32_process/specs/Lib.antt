@@ -17,3 +17,4 @@ pub mod SweepLaws
 pub mod CloseLaws
 pub mod ClosedLaws
 pub mod ClosingLaws
+pub mod StateClosing
