@@ -18,3 +18,4 @@ pub mod CloseLaws
 pub mod ClosedLaws
 pub mod ClosingLaws
 pub mod StateClosing
+pub mod EndingLaws
