@@ -39,7 +39,7 @@ module _ (next : ℕ) (ps : List Process) (xs : List NumberedObject) (w code : �
   abbrev pub ended : List Process
   ended = change_process w (ended_process code) ps
 
-  abbrev empty : List Process
+  abbrev pub empty : List Process
   empty = with_hs next ps xs w p rising objects handles found alive []
 
   abbrev os : List NumberedObject
@@ -158,7 +158,7 @@ module _ (next : ℕ) (ps : List Process) (xs : List NumberedObject) (w code : �
         n,
       )
 
-  held_ended : (o : ℕ) → is_object_held ended o ≡ is_object_held empty o
+  pub held_ended : (o : ℕ) → is_object_held ended o ≡ is_object_held empty o
   held_ended o =
       same_bool (is_object_held ended o) (is_object_held empty o)
       (held-over 1 next ended empty o rising_ended handles_ended ended_on_empty)

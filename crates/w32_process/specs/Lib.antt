@@ -19,3 +19,4 @@ pub mod ClosedLaws
 pub mod ClosingLaws
 pub mod StateClosing
 pub mod EndingLaws
+pub mod LastLaws

@@ -50,7 +50,7 @@ module _ (script : Script) (s : Win32State) (h : IsWellFormed script s) (w : ℕ
   rising_handles = have_rising script s h.formed w p found alive
 
   -- the state with the handles that the process has
-  same_handles : change_process w (λ x. record x { handles = p.handles }) s.processes ≡ s.processes
+  pub same_handles : change_process w (λ x. record x { handles = p.handles }) s.processes ≡ s.processes
   same_handles =
       same_processes 1 s.next 1 s.next (change_process w (λ x. record x { handles = p.handles }) s.processes) s.processes
       (rising-change_process w (λ x. record x { handles = p.handles }) (λ x. refl) 1 s.next s.processes
