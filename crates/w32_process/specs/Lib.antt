@@ -20,3 +20,4 @@ pub mod ClosingLaws
 pub mod StateClosing
 pub mod EndingLaws
 pub mod LastLaws
+pub mod RoomLaws
