@@ -21,3 +21,4 @@ pub mod StateClosing
 pub mod EndingLaws
 pub mod LastLaws
 pub mod RoomLaws
+pub mod StateMade
