@@ -61,7 +61,7 @@ length-spaced (w ∷ v ∷ ws) h =
     let all : length (w ∷ v ∷ ws) ≡ suc (length (v ∷ ws)) = refl in
     omega (arith, few, more, whole, all)
 
-headed_length : (ws : List (List ℕ)) → is_headed ws ≡ true → length ws ≤ 6
+pub headed_length : (ws : List (List ℕ)) → is_headed ws ≡ true → length ws ≤ 6
 headed_length [] h = absurd cc
 headed_length ([] ∷ ws) h = absurd cc
 headed_length ((b ∷ bs) ∷ ws) h =
