@@ -1,17 +1,19 @@
 -- No more objects than handles, and no more holders of one.
 use Rattle.std.proofs.Common.{◌≡◌, inl, inr, ℕ, suc, ◌+◌, ◌*◌, ◌≤◌, ◌<◌, Bool, true, false}
 use Rattle.std.proofs.Common.{if◌then◌else◌, nat_eq, List, [], ◌∷◌, Option, Some, None, IsSome, length}
-use Rattle.std.proofs.Common.{slice_index_or, refl, subst, arith}
-use Rattle.std.proofs.lemmas.Bool.{cases_eq}
+use Rattle.std.proofs.Common.{slice_index_or, refl, ap, subst, arith}
+use Rattle.std.proofs.lemmas.Bool.{cases_eq, cases_lt}
 use Rattle.win32_spec.specs.Handles.{Handle, holders_of}
-use Rattle.win32_spec.specs.State.{Object, Process}
-use Rattle.win32_spec.specs.Lookup.{is_alive, object_number}
+use Rattle.win32_spec.specs.State.{Object, NumberedObject, Process}
+use Rattle.win32_spec.specs.Lookup.{is_alive, object_number, object_of, add_object}
 use Rattle.win32_spec.specs.Pipes.{all_holders_of}
-use Rattle.win32_spec.specs.LookupLaws.{same, differs}
+use Rattle.win32_spec.specs.WellFormed.{AreRisingObjects}
+use Rattle.win32_spec.specs.LookupLaws.{same, differs, before, not_before}
 use Rattle.w32_handles.specs.Table.{Kept}
 use Rattle.w32_handles.specs.Counted.{holders_on, all_holders_on, all_handles, count_objects}
 use Rattle.w32_handles.specs.CountLaws.{is_on}
-use Rattle.w32_handles.specs.Shown.{objects_from}
+use Rattle.w32_handles.specs.Shown.{objects_from, without_object}
+use Rattle.w32_handles.specs.ShownLaws.{object_of-below}
 
 -- one handle names one object
 one_holder : (p : Handle) (hs : List Handle) (o : ℕ) → object_number o ≡ o
@@ -151,3 +153,35 @@ module _ {K : Type 0} where
   length-objects f place [] = refl
   length-objects f place (None ∷ places) = length-objects f (place + 1) places
   length-objects f place (Some kept ∷ places) = omega (arith, length-objects f (place + 1) places)
+
+-- One object less, or one more.
+pub without_object-absent : (o : ℕ) (xs : List NumberedObject) → object_of xs o ≡ None → without_object o xs ≡ xs
+without_object-absent o [] e = refl
+without_object-absent o (x ∷ xs) e =
+    elim (cases_eq x.number o) [
+      | inl n ↦ let s = same x.number o n in absurd (let f : Some x.object ≡ None = rw s at e in cc)
+      | inr d ↦ let s = differs x.number o d in
+          rw s (ap (λ rest. x ∷ rest) (without_object-absent o xs (rw s at e)))
+    ]
+
+pub length-without : (low o : ℕ) (x : Object) (xs : List NumberedObject) → AreRisingObjects low xs
+    → object_of xs o ≡ Some x
+    → length (without_object o xs) + 1 ≡ length xs
+length-without low o x [] r e = absurd (cc)
+length-without low o x (z ∷ xs) r e =
+    elim (cases_eq z.number o) [
+      | inl n ↦
+          let s = same z.number o n in
+          let gone = without_object-absent o xs (object_of-below (z.number + 1) xs o r.2 (omega arith)) in
+          rw (s, gone) (omega arith)
+      | inr d ↦ let s = differs z.number o d in
+          rw s (omega (arith, length-without (z.number + 1) o x xs r.2 (rw s at e)))
+    ]
+
+pub length-add : (o : ℕ) (x : Object) (xs : List NumberedObject) → length (add_object o x xs) ≡ length xs + 1
+length-add o x [] = refl
+length-add o x (z ∷ xs) =
+    elim (cases_lt o z.number) [
+      | inl l ↦ let t = before o z.number l in rw t (omega arith)
+      | inr l ↦ let t = not_before o z.number l in rw t (omega (arith, length-add o x xs))
+    ]

@@ -14,7 +14,7 @@ use Rattle.w32_handles.specs.Shown.{object_shown, objects_from, objects_of, with
 abbrev pub FindsObjects : List NumberedObject → List NumberedObject → Type 0
 FindsObjects xs ys = (o : ℕ) → object_of xs o ≡ object_of ys o
 
-object_of-below : (low : ℕ) (xs : List NumberedObject) (o : ℕ) → AreRisingObjects low xs → o < low
+pub object_of-below : (low : ℕ) (xs : List NumberedObject) (o : ℕ) → AreRisingObjects low xs → o < low
     → object_of xs o ≡ None
 object_of-below low xs o r l = by_answer (object_of xs o) refl
   where

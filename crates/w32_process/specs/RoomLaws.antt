@@ -2,7 +2,7 @@
 use Rattle.std.proofs.Common.{◌≡◌, ◌≢◌, inl, inr, ℕ, zero, suc, ◌+◌, ◌*◌, ◌≤◌, ◌<◌, true, if◌then◌else◌, List, []}
 use Rattle.std.proofs.Common.{◌∷◌, length, Option, Some, None, IsSome, slice_index_or, refl, sym, ap, ◌∙◌, subst, arith}
 use Rattle.std.proofs.Common.{true≢false}
-use Rattle.std.proofs.lemmas.Bool.{cases_eq, cases_lt}
+use Rattle.std.proofs.lemmas.Bool.{cases_lt}
 use Rattle.std.proofs.lemmas.Bool.Decides.{nat_tests}
 use Rattle.w32_base.specs.declared.call.Call.{Call}
 use Rattle.script_spec.specs.declared.script.Script.{Script}
@@ -20,7 +20,7 @@ use Rattle.w32_handles.specs.ShownLaws.{object_of-place}
 use Rattle.w32_handles.specs.ShownLaws.{rising-without_object}
 use Rattle.w32_handles.specs.Counted.{all_holders_on, all_handles}
 use Rattle.w32_handles.specs.CountLaws.{held-counted}
-use Rattle.w32_handles.specs.BoundLaws.{all_holders_on-le, count-le, length-objects}
+use Rattle.w32_handles.specs.BoundLaws.{all_holders_on-le, count-le, length-objects, length-without}
 use Rattle.w32_process.specs.declared.kept.Kept.{Kept as KeptProcess}
 use Rattle.w32_process.specs.Places.{Place}
 use Rattle.w32_process.specs.Table.{Table, place_at, number_at, code_of}
@@ -105,24 +105,6 @@ handles_in-room (place ∷ places) (suc slot) w more few at room =
     by_number None e rest = omega (arith, rest)
     by_number (Some v) e rest = omega (arith, rest, few 0 v e)
 
--- one object less
-length-without_le : (o : ℕ) (xs : List NumberedObject) → length (without_object o xs) ≤ length xs
-length-without_le o [] = omega arith
-length-without_le o (z ∷ xs) =
-    elim (cases_eq z.number o) [
-      | inl n ↦ let s = same z.number o n in rw s (omega (arith, length-without_le o xs))
-      | inr d ↦ let s = differs z.number o d in rw s (omega (arith, length-without_le o xs))
-    ]
-
-length-without : (xs : List NumberedObject) (o : ℕ) (x : Object) → object_of xs o ≡ Some x
-    → length (without_object o xs) + 1 ≤ length xs
-length-without [] o x e = absurd (cc)
-length-without (z ∷ xs) o x e =
-    elim (cases_eq z.number o) [
-      | inl n ↦ let s = same z.number o n in rw s (omega (arith, length-without_le o xs))
-      | inr d ↦ let s = differs z.number o d in rw s (omega (arith, length-without xs o x (rw s at e)))
-    ]
-
 -- no more ended processes of which there is an object than objects
 kept-listed : (es : List KeptProcess) (xs : List NumberedObject) → AreDistinct es → AreRisingObjects 0 xs
     → ((w : ℕ) → IsSome (code_of es w) → is_process_held xs w ≡ true)
@@ -133,7 +115,7 @@ kept-listed (e ∷ es) xs distinct r held =
     let at = process_held-by 0 xs e.number r (held e.number (rw s refl)) in
     omega (
       arith,
-      length-without xs at.0 (ProcessObject e.number) at.1,
+      length-without 0 at.0 (ProcessObject e.number) xs r at.1,
       kept-listed es (without_object at.0 xs) distinct.1 (rising-without_object at.0 0 xs r) (still at.0 at.1),
     )
   where
