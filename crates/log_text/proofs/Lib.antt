@@ -1,0 +1,8 @@
+mod OneLine
+mod Lists
+mod Writing
+mod CallerLines
+mod Groups
+mod Shown
+mod Outputs
+mod Views
