@@ -10,6 +10,7 @@ use Rattle.script_spec.specs.declared.fault.Kind.{Kind}
 use Rattle.script_spec.specs.FirstWords.{instr_word_text}
 use Rattle.script_spec.specs.Forms.{forms_fault, instr_forms, kept_form, place_as}
 use Rattle.script_spec.specs.InstrText.{instr_words}
+use Rattle.script_spec.specs.Validity.{is_valid_instr}
 use Rattle.cyg_script.specs.Instructions.{clamped, place_named, IsRead}
 use Rattle.cyg_script.specs.Results.{fault_in}
 use Rattle.cyg_script.proofs.Forms.{is_placeless}
@@ -67,6 +68,11 @@ pub alone_text : (r : Result Instr Kind) (w v : InstrWord) (ws : List (List ℕ)
     → IfOk r (λ (j : Instr). is_target_below 65535 j ≡ true → instr_word_text w ∷ ws ≡ instr_words j)
 alone_text (Ok j) w v ws i is t k = λ below. text_done w v ws [] is k.1 ∙ t ∙ ap instr_words (sym k.0)
 alone_text (Err e) w v ws i is t k = tt
+
+pub alone_valid : (r : Result Instr Kind) (ws : List (List ℕ)) (i : Instr) → is_valid_instr i ≡ true
+    → IfOk r (λ (j : Instr). (j ≡ i) × (ws ≡ [])) → IfOk r (λ (j : Instr). is_valid_instr j ≡ true)
+alone_valid (Ok j) ws i v k = ap is_valid_instr k.0 ∙ v
+alone_valid (Err e) ws i v k = tt
 
 pub read_place : (r : Result Instr Kind) (w v : InstrWord) (ws : List (List ℕ)) → w ≡ v → IfOk r (IsRead v ws)
     → IfOk r (λ (j : Instr). place_by w ws ≡ place_named j)

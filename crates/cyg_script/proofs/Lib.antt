@@ -1,6 +1,7 @@
 pub mod Pieces
 pub mod Values
 pub mod Forms
+pub mod Lesser
 pub mod Choices
 pub mod Masks
 pub mod Actions
@@ -9,3 +10,18 @@ pub mod Prints
 pub mod Steps
 pub mod TextLines
 pub mod Writes
+pub mod WordSorts
+pub mod Counts
+pub mod Counted
+pub mod CountedCode
+pub mod WritesCode
+pub mod SoundSteps
+pub mod Judging
+pub mod WordFaults
+pub mod Reading
+pub mod ReadingCode
+pub mod WordsJudged
+pub mod LineForms
+pub mod LineJudged
+pub mod TextJudged
+pub mod ReadScript

@@ -1,6 +1,6 @@
 -- Steps of the reader: names stay distinct, and a program whose places are tested has its targets in range.
-use Rattle.std.proofs.Common.{◌≡◌, ℕ, suc, ◌≤◌, ◌<◌, Bool, true, false, ◌&&◌, ◌||◌, not, nat_eq, List, [], ◌∷◌, ◌++◌}
-use Rattle.std.proofs.Common.{length, map, Option, Some, None, refl, sym, ap, ◌∙◌, arith, inl, inr, length-append}
+use Rattle.std.proofs.Common.{◌≡◌, ℕ, ◌<◌, true, false, not, nat_eq, List, [], ◌∷◌, ◌++◌}
+use Rattle.std.proofs.Common.{length, map, Some, None, refl, sym, ap, ◌∙◌, arith, inl, inr, length-append}
 use Rattle.std.proofs.lemmas.Bool.{cases_Bool, cases_lt, and_parts, and_from, or_parts, not-true, eq-eqb, eqb-true}
 use Rattle.std.proofs.lemmas.Bool.{false_from_ne_true}
 use Rattle.w32_base.specs.Names.{is_same, is_among, are_distinct}
@@ -9,8 +9,8 @@ use Rattle.w32_base.specs.Targets.{is_target_below, are_targets_below}
 use Rattle.w32_base.specs.declared.instr.Instr.{Instr}
 use Rattle.w32_base.specs.declared.setup.Module.{Module}
 use Rattle.w32_base.specs.declared.setup.Program.{Program}
-use Rattle.cyg_script.specs.declared.line.Heading.{Heading}
-use Rattle.cyg_script.specs.Parts.{Parts, past_line, stage, IsRead, IsStaged, IsEnded}
+use Rattle.cyg_script.specs.declared.heading.Heading.{Heading}
+use Rattle.cyg_script.specs.Parts.{Parts, past_line, stage, IsStaged, IsEnded}
 
 is_same-self : (xs : List ℕ) → is_same xs xs ≡ true
 is_same-self [] = refl

@@ -1,10 +1,9 @@
 -- The first line of a text, and the text after it.
-use Rattle.std.proofs.Common.{◌≡◌, ℕ, suc, ◌+◌, ◌<◌, Bool, true, false, nat_eq, List, [], ◌∷◌, length, refl, ap, ◌∙◌}
+use Rattle.std.proofs.Common.{◌≡◌, ℕ, suc, ◌+◌, ◌<◌, true, false, nat_eq, List, [], ◌∷◌, length, refl, ap, ◌∙◌}
 use Rattle.std.proofs.Common.{arith, inl, inr}
 use Rattle.std.proofs.lemmas.Bool.{cases_Bool}
 use Rattle.script_spec.specs.Lines.{pieces, with_byte, Line, as_lines, lines_of}
 use Rattle.script_spec.specs.TextLaws.{pieces_some}
-use Rattle.cyg_script.specs.Words.{pieces_after}
 
 -- the bytes of pieces, and one more for each
 abbrev weight_of : List (List ℕ) → ℕ

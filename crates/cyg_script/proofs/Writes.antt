@@ -1,6 +1,6 @@
 -- What each line adds to the lines that the parts spell.
-use Rattle.std.proofs.Common.{◌≡◌, ℕ, ◌≤◌, ◌<◌, Bool, true, false, List, [], ◌∷◌, ◌++◌, length, map, Option, Some, None}
-use Rattle.std.proofs.Common.{refl, sym, ap, ◌∙◌, arith, append_assoc}
+use Rattle.std.proofs.Common.{◌≡◌, ℕ, ◌≤◌, true, List, [], ◌∷◌, ◌++◌, Option, Some, None}
+use Rattle.std.proofs.Common.{refl, ap, arith}
 use Rattle.std.specs.Prelude.{codes}
 use Rattle.std.specs.Fmt.{decimal}
 use Rattle.std.proofs.lemmas.List.{append-nil, map-append}
@@ -9,74 +9,82 @@ use Rattle.w32_base.specs.declared.instr.Instr.{Instr}
 use Rattle.w32_base.specs.declared.setup.Module.{Module}
 use Rattle.script_spec.specs.declared.fault.Sort.{Sort}
 use Rattle.script_spec.specs.declared.fault.Sort.TheVariants as sort
-use Rattle.script_spec.specs.declared.script.OccupiedPage.{OccupiedPage}
 use Rattle.script_spec.specs.declared.script.ScheduleLine.{ScheduleLine}
 use Rattle.script_spec.specs.InstrText.{instr_words}
-use Rattle.script_spec.specs.Print.{module_words, occupied_words, schedule_words}
-use Rattle.cyg_script.specs.declared.line.Heading.{Heading}
-use Rattle.cyg_script.specs.Parts.{Parts, stage, stands, IsRead, IsStaged, IsEnded}
-use Rattle.cyg_script.specs.Written.{AreWritten, first_lines, limit_lines, last_lines, schedule_lines, open_lines}
-use Rattle.cyg_script.specs.Written.{header_line, heading_words, IsWritten, Writes}
+use Rattle.script_spec.specs.Print.{module_words}
+use Rattle.cyg_script.specs.Parts.{Parts, stage, stands, IsRead}
+use Rattle.cyg_script.specs.Written.{AreWritten, first_lines, limit_lines, last_lines, schedule_lines}
+use Rattle.cyg_script.specs.Written.{header_line, Writes}
 
-after_slots : (o : Option Sort) → stands o sort.Slots ≡ true → o ≡ Some sort.Header
+pub after_slots : (o : Option Sort) → stands o sort.Slots ≡ true → o ≡ Some sort.Header
 after_slots (Some sort.Header) e = refl
 after_slots o e = cc
 
-after_rows : (o : Option Sort) → stands o sort.Rows ≡ true → o ≡ Some sort.Slots
+pub after_rows : (o : Option Sort) → stands o sort.Rows ≡ true → o ≡ Some sort.Slots
 after_rows (Some sort.Slots) e = refl
 after_rows o e = cc
 
-after_budget : (o : Option Sort) → stands o sort.Budget ≡ true → o ≡ Some sort.Rows
+pub after_budget : (o : Option Sort) → stands o sort.Budget ≡ true → o ≡ Some sort.Rows
 after_budget (Some sort.Rows) e = refl
 after_budget o e = cc
 
-after_schedule : (o : Option Sort) → stands o sort.Schedule ≡ true → o ≡ Some sort.Instruction
+pub after_schedule : (o : Option Sort) → stands o sort.Schedule ≡ true → o ≡ Some sort.Instruction
 after_schedule (Some sort.Instruction) e = refl
 after_schedule o e = cc
 
 abbrev IsBetween : ℕ → ℕ → Option Sort → Type 0
 IsBetween low high o = (low ≤ stage o) × (stage o ≤ high)
 
-before_module : (o : Option Sort) → stands o sort.Module ≡ true → IsBetween 4 5 o
+pub before_module : (o : Option Sort) → stands o sort.Module ≡ true → IsBetween 4 5 o
 before_module (Some sort.Budget) e = (omega arith, omega arith)
 before_module (Some sort.Module) e = (omega arith, omega arith)
 before_module o e = absurd cc
 
-before_occupy : (o : Option Sort) → stands o sort.Occupy ≡ true → IsBetween 4 6 o
+pub before_occupy : (o : Option Sort) → stands o sort.Occupy ≡ true → IsBetween 4 6 o
 before_occupy (Some sort.Budget) e = (omega arith, omega arith)
 before_occupy (Some sort.Module) e = (omega arith, omega arith)
 before_occupy (Some sort.Occupy) e = (omega arith, omega arith)
 before_occupy o e = absurd cc
 
-before_instr : (o : Option Sort) → stands o sort.Instruction ≡ true → IsBetween 7 8 o
+-- a program's own line stands after a budget, a module, a page or an instruction
+pub before_program : (o : Option Sort) → stands o sort.Program ≡ true
+    → (4 ≤ stage o) × (stage o ≤ 8) × (stage o ≡ 7 → ⊥)
+before_program (Some sort.Budget) e = (omega arith, omega arith, λ h. absurd (omega (arith, h)))
+before_program (Some sort.Module) e = (omega arith, omega arith, λ h. absurd (omega (arith, h)))
+before_program (Some sort.Occupy) e = (omega arith, omega arith, λ h. absurd (omega (arith, h)))
+before_program (Some sort.Instruction) e = (omega arith, omega arith, λ h. absurd (omega (arith, h)))
+before_program o e = absurd cc
+
+pub before_instr : (o : Option Sort) → stands o sort.Instruction ≡ true → IsBetween 7 8 o
 before_instr (Some sort.Program) e = (omega arith, omega arith)
 before_instr (Some sort.Instruction) e = (omega arith, omega arith)
 before_instr o e = absurd cc
 
-before_directive : (o : Option Sort) → stands o sort.Directive ≡ true → IsBetween 9 10 o
+pub before_directive : (o : Option Sort) → stands o sort.Directive ≡ true → IsBetween 9 10 o
 before_directive (Some sort.Schedule) e = (omega arith, omega arith)
 before_directive (Some sort.Directive) e = (omega arith, omega arith)
 before_directive o e = absurd cc
 
-all_first : (o : Option Sort) (p : Parts) → 4 ≤ stage o → first_lines o p ≡ limit_lines p
+pub all_first : (o : Option Sort) (p : Parts) → 4 ≤ stage o → first_lines o p ≡ limit_lines p
 all_first None p h = absurd (omega (arith, h))
 all_first (Some sort.Header) p h = absurd (omega (arith, h))
 all_first (Some sort.Slots) p h = absurd (omega (arith, h))
 all_first (Some sort.Rows) p h = absurd (omega (arith, h))
 all_first (Some s) p h = refl
 
-no_last : (o : Option Sort) (lines : List ScheduleLine) → stage o ≤ 8 → last_lines o lines ≡ []
+pub no_last : (o : Option Sort) (lines : List ScheduleLine) → stage o ≤ 8 → last_lines o lines ≡ []
 no_last (Some sort.Schedule) lines h = absurd (omega (arith, h))
 no_last (Some sort.Directive) lines h = absurd (omega (arith, h))
 no_last o lines h = refl
 
-some_last : (o : Option Sort) (lines : List ScheduleLine) → 9 ≤ stage o → last_lines o lines ≡ schedule_lines lines
+pub some_last : (o : Option Sort) (lines : List ScheduleLine) → 9 ≤ stage o → last_lines o lines ≡ schedule_lines lines
 some_last (Some sort.Schedule) lines h = refl
 some_last (Some sort.Directive) lines h = refl
 some_last None lines h = absurd (omega (arith, h))
 some_last (Some s) lines h = absurd (omega (arith, h))
 
-written-push : (lines : List (List (List ℕ))) (is : List Instr) (ws : List (List ℕ)) (i : Instr) → AreWritten lines is
+pub written-push : (lines : List (List (List ℕ))) (is : List Instr) (ws : List (List ℕ)) (i : Instr)
+    → AreWritten lines is
     → (is_target_below 65535 i ≡ true → ws ≡ instr_words i) → AreWritten (lines ++ ws ∷ []) (is ++ i ∷ [])
 written-push [] [] ws i h k = (k, tt)
 written-push [] (j ∷ is) ws i h k = absurd h

@@ -2,6 +2,9 @@ pub mod Words
 pub mod Results
 pub mod Values
 pub mod Instructions
+pub mod Headings
 pub mod Parts
-pub mod Added
 pub mod Written
+pub mod After
+pub mod Judged
+pub mod Scripts

@@ -1,5 +1,5 @@
 -- What a reader of a script holds, and the order in which it gets it.
-use Rattle.std.specs.Prelude.{◌≡◌, ℕ, ◌≤◌, ◌<◌, ◌++◌, Bool, true, false, List, [], ◌∷◌, length, Option, Some, None}
+use Rattle.std.specs.Prelude.{◌≡◌, ℕ, ◌≤◌, ◌<◌, Bool, true, false, List, [], ◌∷◌, length, Option, Some, None}
 use Rattle.std.specs.Prelude.{if◌then◌else◌}
 use Rattle.std.specs.List.{list_all}
 use Rattle.w32_base.specs.Names.{is_among, are_distinct}
@@ -16,7 +16,7 @@ use Rattle.script_spec.specs.declared.script.ScheduleLine.{ScheduleLine}
 use Rattle.script_spec.specs.FirstFault.{is_none}
 use Rattle.script_spec.specs.Places.{sort_number, place_fault}
 use Rattle.script_spec.specs.Ranges.{is_line_within}
-use Rattle.cyg_script.specs.declared.line.Heading.{Heading}
+use Rattle.cyg_script.specs.declared.heading.Heading.{Heading}
 use Rattle.cyg_script.specs.declared.reader.Reader.{Reader}
 
 -- what was read so far: the sort of the last line, the script's parts, and the program that hasn't ended

@@ -1,15 +1,15 @@
 -- The lines that were read, as what the reader holds spells them.
-use Rattle.std.specs.Prelude.{◌≡◌, ℕ, true, List, [], ◌∷◌, ◌++◌, map, codes, Option, Some, None, if◌then◌else◌}
+use Rattle.std.specs.Prelude.{◌≡◌, ℕ, true, List, [], ◌∷◌, ◌++◌, map, codes, Option, Some, None}
 use Rattle.std.specs.Fmt.{decimal}
 use Rattle.w32_base.specs.Targets.{is_target_below}
 use Rattle.w32_base.specs.declared.instr.Instr.{Instr}
 use Rattle.script_spec.specs.declared.fault.Sort.{Sort}
 use Rattle.script_spec.specs.declared.fault.Sort.TheVariants as sort
 use Rattle.script_spec.specs.declared.script.ScheduleLine.{ScheduleLine}
-use Rattle.script_spec.specs.Lines.{is_skipped, words_of}
 use Rattle.script_spec.specs.InstrText.{instr_words}
 use Rattle.script_spec.specs.Print.{module_words, occupied_words, programs_lines, schedule_words}
-use Rattle.cyg_script.specs.declared.line.Heading.{Heading}
+use Rattle.cyg_script.specs.declared.heading.Heading.{Heading}
+use Rattle.cyg_script.specs.Headings.{heading_words}
 use Rattle.cyg_script.specs.Parts.{Parts}
 
 -- the lines of instructions, but for places past 65,535, which are past each program's end
@@ -42,9 +42,6 @@ first_lines (Some sort.Schedule) p = limit_lines p
 first_lines (Some sort.Directive) p = limit_lines p
 
 -- the lines of the program that hasn't ended
-abbrev pub heading_words : Heading → List (List ℕ)
-heading_words h = codes "program" ∷ h.name ∷ codes "heap" ∷ decimal h.heap ∷ codes "stack" ∷ decimal h.stack ∷ []
-
 abbrev pub open_lines : Option Heading → List (List (List ℕ)) → List (List (List ℕ))
 open_lines None code = []
 open_lines (Some h) code = heading_words h ∷ code
@@ -68,10 +65,3 @@ pub record IsWritten (lines : List (List (List ℕ))) (p : Parts) : Type 0 where
 -- reading a line of these words takes the old parts to the new ones
 abbrev pub Writes : List (List ℕ) → Parts → Parts → Type 0
 Writes ws old new = (lines : List (List (List ℕ))) → IsWritten lines old → IsWritten (lines ++ ws ∷ []) new
-
--- so does reading a line of these bytes
-abbrev pub with_line : List (List (List ℕ)) → List ℕ → List (List (List ℕ))
-with_line lines bytes = if is_skipped bytes then lines else lines ++ words_of bytes ∷ []
-
-abbrev pub WritesLine : List ℕ → Parts → Parts → Type 0
-WritesLine bytes old new = (lines : List (List (List ℕ))) → IsWritten lines old → IsWritten (with_line lines bytes) new

@@ -1,12 +1,14 @@
 //! What a word of a line must be.
 
-ghost use Rattle.std.specs.Prelude.{◌≡◌, IfOk, IsSome, IfSome, IsTrue, ◌↔◌, ◌<◌};
+ghost use Rattle.std.specs.Prelude.{◌≡◌, true, IfOk, IsSome, IfSome, IsTrue, ◌↔◌, ◌<◌, nat_lt};
 ghost use Rattle.std.specs.Fmt.{decimal};
+ghost use Rattle.w32_base.specs.Name.{is_name};
 ghost use Rattle.w32_base.specs.Names.{is_same};
 ghost use Rattle.script_spec.specs.Fields.{field_fault, RegisterWord, ValueWord, PlaceWord, NameWord, KeyWord};
 ghost use Rattle.script_spec.specs.InstrText.{register_text, operand_text};
 ghost use Rattle.script_spec.specs.Numbers.{value_of, is_hexadecimal};
 ghost use Rattle.script_spec.specs.Print.{key_text, hexadecimal_digit};
+ghost use Rattle.script_spec.specs.Validity.{is_valid_operand};
 ghost use Rattle.cyg_script.specs.Instructions.{clamped};
 ghost use Rattle.cyg_script.specs.Results.{fault_in};
 
@@ -24,6 +26,7 @@ pub fn is_same(text: &[u8], word: &[u8]) -> bool
 /// A register.
 pub fn register(word: &[u8]) -> Result<Register, Kind>
     ensures fault { fault_in result ≡ field_fault RegisterWord word.now }
+    ensures valid { IfOk result (λ r. nat_lt r 8 ≡ true) }
     ensures text { IfOk result (λ r. word.now ≡ register_text r) }
 {
     match word {
@@ -35,6 +38,7 @@ pub fn register(word: &[u8]) -> Result<Register, Kind>
 /// A register or a number.
 pub fn operand(word: &[u8]) -> Result<Operand, Kind>
     ensures fault { fault_in result ≡ field_fault ValueWord word.now }
+    ensures valid { IfOk result (λ v. is_valid_operand v ≡ true) }
     ensures text { IfOk result (λ v. word.now ≡ operand_text v) }
 {
     match word {
@@ -65,6 +69,7 @@ pub fn place(word: &[u8]) -> Result<u16, Kind>
 /// A name.
 pub fn name(word: &[u8]) -> Result<Name, Kind>
     ensures fault { fault_in result ≡ field_fault NameWord word.now }
+    ensures valid { IfOk result (λ n. is_name n ≡ true) }
     ensures text { IfOk result (λ n. word.now ≡ n) }
 {
     if is_empty(word) {

@@ -1,12 +1,14 @@
 //! The lines of instructions.
 
-ghost use Rattle.std.specs.Prelude.{◌≡◌, ◌<◌, true, ◌∷◌, [], IfOk, Some, option_map};
+ghost use Rattle.std.specs.Prelude.{◌≡◌, ◌<◌, true, ◌∷◌, [], ◌&&◌, nat_lt, IfOk, Some, option_map};
 ghost use Rattle.std.specs.Fmt.{decimal};
+ghost use Rattle.w32_base.specs.Name.{is_name};
 ghost use Rattle.w32_base.specs.Targets.{is_target_below};
 ghost use Rattle.script_spec.specs.FirstWords.{instr_word_text};
 ghost use Rattle.script_spec.specs.Fields.{RegisterWord, ValueWord, PlaceWord, NameWord};
 ghost use Rattle.script_spec.specs.Forms.{instr_forms, forms_fault, kept_form, place_as};
 ghost use Rattle.script_spec.specs.InstrText.{register_text, operand_text, instr_words};
+ghost use Rattle.script_spec.specs.Validity.{is_valid_operand, is_valid_instr};
 ghost use Rattle.cyg_script.specs.Instructions.{clamped, place_named, change_of, restart_words, IsRead};
 ghost use Rattle.cyg_script.specs.Results.{fault_in};
 ghost use Rattle.cyg_script.specs.Words.{words_after};
@@ -35,6 +37,7 @@ fn alone(instr: Instr, rest: Option<&[u8]>) -> Result<Instr, Kind>
 fn one_operand(rest: Option<&[u8]>) -> Result<Operand, Kind>
     ensures fault { fault_in result ≡ forms_fault ((ValueWord ∷ []) ∷ [])
         (words_after (option_map (λ r. r.now) rest.entry)) }
+    ensures valid { IfOk result (λ v. is_valid_operand v ≡ true) }
     ensures text { IfOk result (λ v. words_after (option_map (λ r. r.now) rest.entry) ≡ operand_text v ∷ []) }
 {
     match one(rest) {
@@ -48,6 +51,7 @@ fn one_operand(rest: Option<&[u8]>) -> Result<Operand, Kind>
 fn two_operands(rest: Option<&[u8]>) -> Result<(Operand, Operand), Kind>
     ensures fault { fault_in result ≡ forms_fault ((ValueWord ∷ ValueWord ∷ []) ∷ [])
         (words_after (option_map (λ r. r.now) rest.entry)) }
+    ensures valid { IfOk result (λ p. (is_valid_operand p.0 && is_valid_operand p.1) ≡ true) }
     ensures text { IfOk result (λ p. words_after (option_map (λ r. r.now) rest.entry)
         ≡ operand_text p.0 ∷ operand_text p.1 ∷ []) }
 {
@@ -62,6 +66,7 @@ fn two_operands(rest: Option<&[u8]>) -> Result<(Operand, Operand), Kind>
 fn one_register(rest: Option<&[u8]>) -> Result<Register, Kind>
     ensures fault { fault_in result ≡ forms_fault ((RegisterWord ∷ []) ∷ [])
         (words_after (option_map (λ r. r.now) rest.entry)) }
+    ensures valid { IfOk result (λ r. nat_lt r 8 ≡ true) }
     ensures text { IfOk result (λ r. words_after (option_map (λ r. r.now) rest.entry) ≡ register_text r ∷ []) }
 {
     match one(rest) {
@@ -75,6 +80,7 @@ fn one_register(rest: Option<&[u8]>) -> Result<Register, Kind>
 fn register_and_operand(rest: Option<&[u8]>) -> Result<(Register, Operand), Kind>
     ensures fault { fault_in result ≡ forms_fault ((RegisterWord ∷ ValueWord ∷ []) ∷ [])
         (words_after (option_map (λ r. r.now) rest.entry)) }
+    ensures valid { IfOk result (λ p. (nat_lt p.0 8 && is_valid_operand p.1) ≡ true) }
     ensures text { IfOk result (λ p. words_after (option_map (λ r. r.now) rest.entry)
         ≡ register_text p.0 ∷ operand_text p.1 ∷ []) }
 {
@@ -103,6 +109,7 @@ fn one_place(rest: Option<&[u8]>) -> Result<u16, Kind>
 fn operand_and_place(rest: Option<&[u8]>) -> Result<(Operand, u16), Kind>
     ensures fault { fault_in result ≡ forms_fault ((ValueWord ∷ PlaceWord ∷ []) ∷ [])
         (words_after (option_map (λ r. r.now) rest.entry)) }
+    ensures valid { IfOk result (λ p. is_valid_operand p.0 ≡ true) }
     ensures place { IfOk result (λ p. option_map clamped (place_as
         (words_after (option_map (λ r. r.now) rest.entry)) (kept_form ((ValueWord ∷ PlaceWord ∷ []) ∷ [])
         (words_after (option_map (λ r. r.now) rest.entry)))) ≡ Some p.1) }
@@ -120,6 +127,7 @@ fn operand_and_place(rest: Option<&[u8]>) -> Result<(Operand, u16), Kind>
 fn one_name(rest: Option<&[u8]>) -> Result<Name, Kind>
     ensures fault { fault_in result ≡ forms_fault ((NameWord ∷ []) ∷ [])
         (words_after (option_map (λ r. r.now) rest.entry)) }
+    ensures valid { IfOk result (λ n. is_name n ≡ true) }
     ensures text { IfOk result (λ n. words_after (option_map (λ r. r.now) rest.entry) ≡ n ∷ []) }
 {
     match one(rest) {
@@ -131,6 +139,7 @@ fn one_name(rest: Option<&[u8]>) -> Result<Name, Kind>
 /// `action V default` or `action V ignore`.
 fn plain_action(signal: &[u8], word: &[u8]) -> Result<Instr, Kind>
     ensures fault { fault_in result ≡ forms_fault (instr_forms InstrWord.Action) (signal.now ∷ word.now ∷ []) }
+    ensures valid { IfOk result (λ i. is_valid_instr i ≡ true) }
     ensures read { IfOk result (IsRead InstrWord.Action (signal.now ∷ word.now ∷ [])) }
 {
     if is_same(b"default", word) {
@@ -148,6 +157,7 @@ fn plain_action(signal: &[u8], word: &[u8]) -> Result<Instr, Kind>
 fn handler_action(signal: &[u8], word: &[u8], at: &[u8], restart: bool) -> Result<Instr, Kind>
     ensures fault { fault_in result ≡ forms_fault (instr_forms InstrWord.Action)
         (signal.now ∷ word.now ∷ at.now ∷ restart_words restart) }
+    ensures valid { IfOk result (λ i. is_valid_instr i ≡ true) }
     ensures read { IfOk result (IsRead InstrWord.Action (signal.now ∷ word.now ∷ at.now ∷ restart_words restart)) }
 {
     if is_same(b"handler", word) {
@@ -162,6 +172,7 @@ fn handler_action(signal: &[u8], word: &[u8], at: &[u8], restart: bool) -> Resul
 fn restart_action(signal: &[u8], word: &[u8], at: &[u8], last: &[u8]) -> Result<Instr, Kind>
     ensures fault { fault_in result ≡ forms_fault (instr_forms InstrWord.Action)
         (signal.now ∷ word.now ∷ at.now ∷ last.now ∷ []) }
+    ensures valid { IfOk result (λ i. is_valid_instr i ≡ true) }
     ensures read { IfOk result (IsRead InstrWord.Action (signal.now ∷ word.now ∷ at.now ∷ last.now ∷ [])) }
 {
     if is_same(b"restart", last) {
@@ -175,6 +186,7 @@ fn restart_action(signal: &[u8], word: &[u8], at: &[u8], last: &[u8]) -> Result<
 fn action(rest: Option<&[u8]>) -> Result<Instr, Kind>
     ensures fault { fault_in result ≡ forms_fault (instr_forms InstrWord.Action)
         (words_after (option_map (λ r. r.now) rest.entry)) }
+    ensures valid { IfOk result (λ i. is_valid_instr i ≡ true) }
     ensures read { IfOk result (IsRead InstrWord.Action (words_after (option_map (λ r. r.now) rest.entry))) }
 {
     match two(rest) {
@@ -204,6 +216,7 @@ fn change(word: &[u8]) -> Option<MaskChange>
 /// `mask CHANGE V`, of its two words.
 fn mask_of(word: &[u8], v: &[u8]) -> Result<Instr, Kind>
     ensures fault { fault_in result ≡ forms_fault (instr_forms InstrWord.Mask) (word.now ∷ v.now ∷ []) }
+    ensures valid { IfOk result (λ i. is_valid_instr i ≡ true) }
     ensures read { IfOk result (IsRead InstrWord.Mask (word.now ∷ v.now ∷ [])) }
 {
     match change(word) {
@@ -219,6 +232,7 @@ fn mask_of(word: &[u8], v: &[u8]) -> Result<Instr, Kind>
 fn mask(rest: Option<&[u8]>) -> Result<Instr, Kind>
     ensures fault { fault_in result ≡ forms_fault (instr_forms InstrWord.Mask)
         (words_after (option_map (λ r. r.now) rest.entry)) }
+    ensures valid { IfOk result (λ i. is_valid_instr i ≡ true) }
     ensures read { IfOk result (IsRead InstrWord.Mask (words_after (option_map (λ r. r.now) rest.entry))) }
 {
     match two(rest) {
@@ -231,6 +245,7 @@ fn mask(rest: Option<&[u8]>) -> Result<Instr, Kind>
 pub fn instruction(word: InstrWord, rest: Option<&[u8]>) -> Result<Instr, Kind>
     ensures fault { fault_in result ≡ forms_fault (instr_forms word)
         (words_after (option_map (λ r. r.now) rest.entry)) }
+    ensures valid { IfOk result (λ i. is_valid_instr i ≡ true) }
     ensures place { IfOk result (λ i. option_map clamped (place_as
         (words_after (option_map (λ r. r.now) rest.entry)) (kept_form (instr_forms word)
         (words_after (option_map (λ r. r.now) rest.entry)))) ≡ place_named i) }

@@ -4,6 +4,7 @@
 mod error;
 mod field;
 mod first_word;
+mod heading;
 mod instr_print;
 mod instruction;
 mod least;

@@ -1,28 +1,44 @@
 //! The lines of a script that are no instructions.
 
-ghost use Rattle.std.specs.Prelude.{◌≡◌, ℕ, ◌≤◌, ◌+◌, ◌∷◌, [], true, IfOk, codes, option_map};
+ghost use Rattle.std.specs.Prelude.{◌≡◌, ℕ, ◌≤◌, ◌+◌, ◌∷◌, ◌&&◌, [], List, true, IfOk, codes, option_map};
 ghost use Rattle.std.specs.Fmt.{decimal};
+ghost use Rattle.w32_base.specs.Names.{is_same};
+ghost use Rattle.script_spec.specs.Faults.{least};
+ghost use Rattle.script_spec.specs.Fields.{NumberWord, KeyWord, field_fault};
 ghost use Rattle.script_spec.specs.FirstWords.{directive_word_text};
-ghost use Rattle.script_spec.specs.Print.{schedule_words};
+ghost use Rattle.script_spec.specs.Forms.{forms, directive_forms, forms_fault};
+ghost use Rattle.script_spec.specs.LineFaults.{is_header, pages_fault};
+ghost use Rattle.script_spec.specs.Numbers.{value_of};
+ghost use Rattle.script_spec.specs.Print.{module_words, occupied_words, schedule_words};
 ghost use Rattle.script_spec.specs.Ranges.{is_line_within};
+ghost use Rattle.script_spec.specs.Validity.{is_valid_module, is_valid_page, is_valid_line};
+ghost use Rattle.cyg_script.specs.Headings.{heading_words, is_valid_heading};
+ghost use Rattle.cyg_script.specs.Results.{fault_in};
 ghost use Rattle.cyg_script.specs.Words.{words_after};
 
 use crate::field::{is_same, key_byte, name};
+use crate::heading::Heading;
 use crate::least::both;
 use crate::number::number;
 use crate::words::{are_none, five, one, three, two};
-use script_spec::{DirectiveWord, Kind, OccupiedPage, ScheduleLine};
-use w32_base::{Directive, Module, Name, Slot, ThreadNo};
+use script_spec::{DirectiveWord, FirstWord, Kind, OccupiedPage, ScheduleLine};
+use w32_base::{Directive, Module, Slot, ThreadNo};
 
 /// `1`, after `cygscript`.
-pub fn is_version(rest: Option<&[u8]>) -> bool {
+pub fn is_version(rest: Option<&[u8]>) -> bool
+    ensures { (word : List ℕ) → is_header (word ∷ words_after (option_map (λ r. r.now) rest.entry))
+        ≡ (is_same (codes "cygscript") word && result) }
+{
     matches!(one(rest), Some(b"1"))
 }
 
 /// One number in a range.
 #[tactic(auto, using(crate::proofs::Forms::one_is))]
 pub fn one_number(rest: Option<&[u8]>, low: u64, high: u64) -> Result<u64, Kind>
+    ensures fault { fault_in result ≡ forms_fault ((NumberWord low high ∷ []) ∷ [])
+        (words_after (option_map (λ r. r.now) rest.entry)) }
     ensures range { IfOk result (λ n. (low ≤ n) × (n ≤ high)) }
+    ensures value { IfOk result (λ n. value_of (decimal n) ≡ n) }
     ensures text { IfOk result (λ n. words_after (option_map (λ r. r.now) rest.entry) ≡ decimal n ∷ []) }
 {
     match one(rest) {
@@ -33,8 +49,12 @@ pub fn one_number(rest: Option<&[u8]>, low: u64, high: u64) -> Result<u64, Kind>
 
 /// The pages of a module.
 fn pages(base: &[u8], size: &[u8]) -> Result<(u64, u64), Kind>
+    ensures fault { fault_in result ≡ least (least (field_fault (NumberWord 0 1023) base.now)
+        (field_fault (NumberWord 1 8) size.now)) (pages_fault FirstWord.Module ([] ∷ base.now ∷ size.now ∷ [])) }
     ensures size { IfOk result (λ p. (1 ≤ p.1) × (p.1 ≤ 8)) }
     ensures end { IfOk result (λ p. p.0 + p.1 ≤ 1024) }
+    ensures base_text { IfOk result (λ p. base.now ≡ decimal p.0) }
+    ensures size_text { IfOk result (λ p. size.now ≡ decimal p.1) }
 {
     let (base, size) = both(number(base, 0, 1023), number(size, 1, 8))?;
     if base + size <= 1024 {
@@ -45,7 +65,14 @@ fn pages(base: &[u8], size: &[u8]) -> Result<(u64, u64), Kind>
 }
 
 /// `NAME BASE SIZE`.
-pub fn module(rest: Option<&[u8]>) -> Result<Module, Kind> {
+pub fn module(rest: Option<&[u8]>) -> Result<Module, Kind>
+    ensures fault { fault_in result ≡ least
+        (forms_fault (forms 0 FirstWord.Module) (words_after (option_map (λ r. r.now) rest.entry)))
+        (pages_fault FirstWord.Module (words_after (option_map (λ r. r.now) rest.entry))) }
+    ensures valid { IfOk result (λ m. is_valid_module m ≡ true) }
+    ensures text { IfOk result (λ m. codes "module" ∷ words_after (option_map (λ r. r.now) rest.entry)
+        ≡ module_words m) }
+{
     match three(rest) {
         Some((word, base, size)) => {
             let (name, (base, size)) = both(name(word), pages(base, size))?;
@@ -60,7 +87,13 @@ pub fn module(rest: Option<&[u8]>) -> Result<Module, Kind> {
 }
 
 /// `CREATION PAGE`.
-pub fn occupy(rest: Option<&[u8]>) -> Result<OccupiedPage, Kind> {
+pub fn occupy(rest: Option<&[u8]>) -> Result<OccupiedPage, Kind>
+    ensures fault { fault_in result ≡ forms_fault (forms 0 FirstWord.Occupy)
+        (words_after (option_map (λ r. r.now) rest.entry)) }
+    ensures valid { IfOk result (λ o. is_valid_page o ≡ true) }
+    ensures text { IfOk result (λ o. codes "occupy" ∷ words_after (option_map (λ r. r.now) rest.entry)
+        ≡ occupied_words o) }
+{
     match two(rest) {
         Some((creation, page)) => {
             let (creation, page) = both(number(creation, 1, 500_000), number(page, 0, 1023))?;
@@ -73,24 +106,20 @@ pub fn occupy(rest: Option<&[u8]>) -> Result<OccupiedPage, Kind> {
     }
 }
 
-/// A program's own line.
-#[derive(Clone, Copy, Debug)]
-pub struct Heading {
-    /// Its name.
-    pub name: Name,
-    /// The bytes of its heap.
-    pub heap: u16,
-    /// The bytes of its stack.
-    pub stack: u16,
-    pub ghost heap_in_range: { heap ≤ 32768 },
-    pub ghost stack_in_range: { (64 ≤ stack) × (stack ≤ 32768) },
-}
-
 /// `NAME heap N stack N`.
-pub fn own_line(rest: Option<&[u8]>) -> Result<Heading, Kind> {
+pub fn own_line(rest: Option<&[u8]>) -> Result<Heading, Kind>
+    ensures fault { fault_in result ≡ forms_fault (forms 0 FirstWord.Program)
+        (words_after (option_map (λ r. r.now) rest.entry)) }
+    ensures valid { IfOk result (λ h. is_valid_heading h ≡ true) }
+    ensures text { IfOk result (λ h. codes "program" ∷ words_after (option_map (λ r. r.now) rest.entry)
+        ≡ heading_words h) }
+{
     match five(rest) {
         Some((word, heap_word, heap, stack_word, stack)) => {
-            if !is_same(b"heap", heap_word) || !is_same(b"stack", stack_word) {
+            if !is_same(b"heap", heap_word) {
+                return Err(Kind::Words);
+            }
+            if !is_same(b"stack", stack_word) {
                 return Err(Kind::Words);
             }
             let (name, (heap, stack)) = both(
@@ -111,8 +140,12 @@ pub fn own_line(rest: Option<&[u8]>) -> Result<Heading, Kind> {
 #[tactic(auto, using(crate::proofs::Forms::two_is))]
 fn turn(slots: u8, rest: Option<&[u8]>) -> Result<ScheduleLine, Kind>
     requires { slots ≤ 64 }
+    ensures fault { fault_in result ≡ forms_fault (directive_forms slots DirectiveWord.Turn)
+        (words_after (option_map (λ r. r.now) rest.entry)) }
     ensures within { IfOk result (λ l. is_line_within slots l ≡ true) }
-    ensures text { IfOk result (λ l. codes "turn" ∷ words_after (option_map (λ r. r.now) rest.entry) ≡ schedule_words l) }
+    ensures valid { IfOk result (λ l. is_valid_line slots l ≡ true) }
+    ensures text { IfOk result (λ l. codes "turn" ∷ words_after (option_map (λ r. r.now) rest.entry)
+        ≡ schedule_words l) }
 {
     match two(rest) {
         Some((slot, thread)) => {
@@ -129,8 +162,12 @@ fn turn(slots: u8, rest: Option<&[u8]>) -> Result<ScheduleLine, Kind>
 /// `S`.
 fn end(slots: u8, rest: Option<&[u8]>) -> Result<ScheduleLine, Kind>
     requires { slots ≤ 64 }
+    ensures fault { fault_in result ≡ forms_fault (directive_forms slots DirectiveWord.End)
+        (words_after (option_map (λ r. r.now) rest.entry)) }
     ensures within { IfOk result (λ l. is_line_within slots l ≡ true) }
-    ensures text { IfOk result (λ l. codes "end" ∷ words_after (option_map (λ r. r.now) rest.entry) ≡ schedule_words l) }
+    ensures valid { IfOk result (λ l. is_valid_line slots l ≡ true) }
+    ensures text { IfOk result (λ l. codes "end" ∷ words_after (option_map (λ r. r.now) rest.entry)
+        ≡ schedule_words l) }
 {
     let slot = one_number(rest, 1, u64::from(slots))?;
     Ok(ScheduleLine::Given(Directive::End(Slot::new(slot as u8))))
@@ -139,8 +176,12 @@ fn end(slots: u8, rest: Option<&[u8]>) -> Result<ScheduleLine, Kind>
 /// `BB`.
 #[tactic(auto, using(crate::proofs::Forms::one_is))]
 fn key(rest: Option<&[u8]>) -> Result<ScheduleLine, Kind>
+    ensures fault { fault_in result ≡ forms_fault ((KeyWord ∷ []) ∷ [])
+        (words_after (option_map (λ r. r.now) rest.entry)) }
     ensures within { IfOk result (λ l. (slots : ℕ) → is_line_within slots l ≡ true) }
-    ensures text { IfOk result (λ l. codes "key" ∷ words_after (option_map (λ r. r.now) rest.entry) ≡ schedule_words l) }
+    ensures valid { IfOk result (λ l. (slots : ℕ) → is_valid_line slots l ≡ true) }
+    ensures text { IfOk result (λ l. codes "key" ∷ words_after (option_map (λ r. r.now) rest.entry)
+        ≡ schedule_words l) }
 {
     match one(rest) {
         Some(byte) => Ok(ScheduleLine::Given(Directive::Key(key_byte(byte)?))),
@@ -155,8 +196,12 @@ pub fn schedule_line(
     rest: Option<&[u8]>,
 ) -> Result<ScheduleLine, Kind>
     requires { slots ≤ 64 }
+    ensures fault { fault_in result ≡ forms_fault (directive_forms slots word)
+        (words_after (option_map (λ r. r.now) rest.entry)) }
     ensures within { IfOk result (λ l. is_line_within slots l ≡ true) }
-    ensures text { IfOk result (λ l. directive_word_text word ∷ words_after (option_map (λ r. r.now) rest.entry) ≡ schedule_words l) }
+    ensures valid { IfOk result (λ l. is_valid_line slots l ≡ true) }
+    ensures text { IfOk result (λ l. directive_word_text word ∷ words_after (option_map (λ r. r.now) rest.entry)
+        ≡ schedule_words l) }
 {
     match word {
         DirectiveWord::Turn => turn(slots, rest),

@@ -1,19 +1,26 @@
 //! What was read of a script, a line after the other.
 
-ghost use Rattle.std.specs.Prelude.{◌≡◌, ◌∷◌, true, IfOk, option_map};
-ghost use Rattle.script_spec.specs.FirstWords.{sort_of, instr_word_text, directive_word_text};
+ghost use Rattle.std.specs.Prelude.{◌≡◌, ◌∷◌, ℕ, List, true, false, Some, IfOk, option_map};
+ghost use Rattle.std.specs.List.{list_all};
 ghost use Rattle.w32_base.specs.Names.{is_among};
 ghost use Rattle.w32_base.specs.Setup.{module_names, program_names};
 ghost use Rattle.w32_base.specs.Targets.{is_target_below};
-ghost use Rattle.cyg_script.specs.Words.{words_after};
-ghost use Rattle.cyg_script.specs.Added.{AddsInstr, AddsLine};
+ghost use Rattle.script_spec.specs.FirstWords.{first_word, sort_of};
+ghost use Rattle.script_spec.specs.LineFaults.{is_printable, bytes_fault, is_header};
+ghost use Rattle.script_spec.specs.Lines.{is_skipped};
+ghost use Rattle.script_spec.specs.Places.{is_sort};
+ghost use Rattle.cyg_script.specs.Judged.{Reads, ReadsWords, ReadsLine, Closes, Finishes, at_line, last_fault};
 ghost use Rattle.cyg_script.specs.Parts.{parts_of, no_parts, stage, stands, ends_program, past_line, IsStaged, IsEnded};
+ghost use Rattle.cyg_script.specs.Scripts.{HasParts};
+ghost use Rattle.cyg_script.specs.Words.{words_after};
+ghost use Rattle.cyg_script.specs.declared.reader.Stop.TheVariants.{Fault, Memory};
 
 use crate::error::ScriptError;
 use crate::field::is_same;
 use crate::first_word::first_word;
+use crate::heading::Heading;
 use crate::instruction::instruction;
-use crate::line::{Heading, is_version, module, occupy, one_number, own_line, schedule_line};
+use crate::line::{is_version, module, occupy, one_number, own_line, schedule_line};
 use crate::piece::cut;
 use crate::place::{place_fault, sort_of};
 use crate::words::are_none;
@@ -60,29 +67,39 @@ pub enum Stop {
 }
 
 impl From<Kind> for Stop {
+    ghost from_gives = { λ k e. e ≡ Fault k };
+
     fn from(kind: Kind) -> Stop {
         Stop::Fault(kind)
     }
 }
 
 impl From<AllocError> for Stop {
+    ghost from_gives = { λ _ e. e ≡ Memory };
+
     fn from(_e: AllocError) -> Stop {
         Stop::Memory
     }
 }
 
 impl<T: Drop> From<AllocFailed<T>> for Stop {
+    ghost from_gives = { λ _ e. e ≡ Memory };
+
     fn from(_e: AllocFailed<T>) -> Stop {
         Stop::Memory
     }
 }
 
-fn is_printable(bytes: &[u8]) -> bool {
+fn is_printable(bytes: &[u8]) -> bool
+    ensures { result ≡ list_all is_printable bytes.now }
+{
     bytes.iter().all(|b| *b >= 32 && *b <= 126)
 }
 
 /// The fault of a line's bytes.
-fn bytes_fault(bytes: &[u8], is_ended: bool) -> Option<Kind> {
+fn bytes_fault(bytes: &[u8], is_ended: bool) -> Option<Kind>
+    ensures { result ≡ bytes_fault (record { bytes = bytes.now; is_ended = is_ended }) }
+{
     if !is_ended {
         Some(Kind::Unfinished)
     } else if !is_printable(bytes) {
@@ -95,10 +112,54 @@ fn bytes_fault(bytes: &[u8], is_ended: bool) -> Option<Kind> {
 }
 
 /// Whether a line is empty or begins with #.
-fn is_skipped(bytes: &[u8]) -> bool {
+fn is_skipped(bytes: &[u8]) -> bool
+    ensures { result ≡ is_skipped bytes.now }
+{
     match bytes {
         [] => true,
         [first, ..] => *first == b'#',
+    }
+}
+
+fn is_cygscript(word: FirstWord) -> bool
+    ensures { result ≡ is_sort Sort.Header (sort_of word) }
+{
+    matches!(word, FirstWord::CygScript)
+}
+
+/// Whether a line of these words is `cygscript 1`.
+fn is_header(first: Option<FirstWord>, rest: Option<&[u8]>) -> bool
+    ensures { (w : List ℕ) → first ≡ first_word w
+        → result ≡ is_header (w ∷ words_after (option_map (λ r. r.now) rest.entry)) }
+{
+    let Some(word) = first else {
+        return false;
+    };
+    if is_cygscript(word) {
+        is_version(rest)
+    } else {
+        false
+    }
+}
+
+/// The fault of the end of a text whose last line is of this sort.
+fn end_fault(last: Option<Sort>) -> Option<Kind>
+    ensures { result ≡ last_fault last }
+{
+    match last {
+        None => Some(Kind::NoHeader),
+        Some(Sort::Directive) => None,
+        Some(
+            Sort::Header
+            | Sort::Slots
+            | Sort::Rows
+            | Sort::Budget
+            | Sort::Module
+            | Sort::Occupy
+            | Sort::Program
+            | Sort::Instruction
+            | Sort::Schedule,
+        ) => Some(Kind::Missing),
     }
 }
 
@@ -137,6 +198,17 @@ fn first_past(n: usize, code: &[Instr], lines: &[u32]) -> Option<u32>
                 }
             }
         },
+    }
+}
+
+/// The answer to the line with this number.
+fn at_line(number: u32, read: Result<(), Stop>) -> Result<(), ScriptError>
+    ensures { result ≡ at_line number read }
+{
+    match read {
+        Ok(()) => Ok(()),
+        Err(Stop::Fault(kind)) => Err(ScriptError::Fault { line: number, kind }),
+        Err(Stop::Memory) => Err(ScriptError::Memory),
     }
 }
 
@@ -191,7 +263,9 @@ impl Reader {
         is_ended: bool,
     ) -> Result<(), ScriptError>
         requires { IsStaged (parts_of self.old) }
-        ensures { IfOk result (λ _. IsStaged (parts_of self.new)) }
+        ensures staged { IfOk result (λ _. IsStaged (parts_of self.new)) }
+        ensures read { ReadsLine result number (record { bytes = bytes.now; is_ended = is_ended })
+            (parts_of self.old) (parts_of self.new) }
     {
         let form = bytes_fault(bytes, is_ended);
         if is_skipped(bytes) {
@@ -202,16 +276,11 @@ impl Reader {
         }
         let (word, rest) = cut(bytes, b' ');
         let first = first_word(word);
-        let stopped = if ends_program(first) {
+        if ends_program(first) {
             self.end_program(alloc)?;
-            self.ending(form, first, rest)
+            at_line(number, self.ending(number, form, first, rest))
         } else {
-            self.words(number, form, first, rest)
-        };
-        match stopped {
-            Ok(()) => Ok(()),
-            Err(Stop::Fault(kind)) => Err(ScriptError::Fault { line: number, kind }),
-            Err(Stop::Memory) => Err(ScriptError::Memory),
+            at_line(number, self.words(number, form, first, rest))
         }
     }
 
@@ -219,7 +288,8 @@ impl Reader {
     #[tactic(auto, using(crate::proofs::Steps::distinct_programs, crate::proofs::Steps::none_past))]
     fn end_program(&mut self, alloc: Global) -> Result<(), ScriptError>
         requires { IsStaged (parts_of self.old) }
-        ensures { IfOk result (λ _. IsEnded (parts_of self.new)) }
+        ensures ended { IfOk result (λ _. IsEnded (parts_of self.new)) }
+        ensures closed { Closes result (parts_of self.old) (parts_of self.new) }
     {
         if self.code.is_empty() {
             return Ok(());
@@ -248,12 +318,16 @@ impl Reader {
     /// The words of a line that isn't skipped, and that begins with `program` or `schedule`.
     fn ending(
         &mut self,
+        number: u32,
         form: Option<Kind>,
         first: Option<FirstWord>,
         rest: Option<&[u8]>,
     ) -> Result<(), Stop>
-        requires { IsEnded (parts_of self.old) }
-        ensures { IfOk result (λ _. IsStaged (parts_of self.new)) }
+        requires closed { IsEnded (parts_of self.old) }
+        requires word { ends_program first ≡ true }
+        ensures staged { IfOk result (λ _. IsStaged (parts_of self.new)) }
+        ensures read { ReadsWords result number form first (words_after (option_map (λ r. r.now) rest.entry))
+            (parts_of self.old) (parts_of self.new) }
     {
         let Some(last) = self.last else {
             return Err(Stop::Fault(Kind::NoHeader));
@@ -282,11 +356,14 @@ impl Reader {
         first: Option<FirstWord>,
         rest: Option<&[u8]>,
     ) -> Result<(), Stop>
-        requires { IsStaged (parts_of self.old) }
-        ensures { IfOk result (λ _. IsStaged (parts_of self.new)) }
+        requires staged { IsStaged (parts_of self.old) }
+        requires word { ends_program first ≡ false }
+        ensures staged { IfOk result (λ _. IsStaged (parts_of self.new)) }
+        ensures read { ReadsWords result number form first (words_after (option_map (λ r. r.now) rest.entry))
+            (parts_of self.old) (parts_of self.new) }
     {
         let Some(last) = self.last else {
-            return self.header(form, first, rest);
+            return self.header(number, form, first, rest);
         };
         if let Some(kind) = form {
             return Err(Stop::Fault(kind));
@@ -303,15 +380,18 @@ impl Reader {
     /// `cygscript 1`.
     fn header(
         &mut self,
+        number: u32,
         form: Option<Kind>,
         first: Option<FirstWord>,
         rest: Option<&[u8]>,
     ) -> Result<(), Stop>
         requires staged { IsStaged (parts_of self.old) }
         requires place { stage self.old.last ≡ 0 }
-        ensures { IfOk result (λ _. IsStaged (parts_of self.new)) }
+        ensures staged { IfOk result (λ _. IsStaged (parts_of self.new)) }
+        ensures read { ReadsWords result number form first (words_after (option_map (λ r. r.now) rest.entry))
+            (parts_of self.old) (parts_of self.new) }
     {
-        if !matches!(first, Some(FirstWord::CygScript)) || !is_version(rest) {
+        if !is_header(first, rest) {
             return Err(Stop::Fault(Kind::NoHeader));
         }
         if let Some(kind) = form {
@@ -325,7 +405,10 @@ impl Reader {
     fn known(&mut self, number: u32, word: FirstWord, rest: Option<&[u8]>) -> Result<(), Stop>
         requires staged { IsStaged (parts_of self.old) }
         requires place { stands self.old.last (sort_of word) ≡ true }
-        ensures { IfOk result (λ _. IsStaged (parts_of self.new)) }
+        requires open { ends_program (Some word) ≡ false }
+        ensures staged { IfOk result (λ _. IsStaged (parts_of self.new)) }
+        ensures read { Reads result number word (words_after (option_map (λ r. r.now) rest.entry))
+            (parts_of self.old) (parts_of self.new) }
     {
         match word {
             FirstWord::CygScript | FirstWord::Program | FirstWord::Schedule => Err(Stop::Fault(
@@ -345,7 +428,9 @@ impl Reader {
     fn slots(&mut self, rest: Option<&[u8]>) -> Result<(), Stop>
         requires staged { IsStaged (parts_of self.old) }
         requires place { stands self.old.last Sort.Slots ≡ true }
-        ensures { IfOk result (λ _. IsStaged (parts_of self.new)) }
+        ensures staged { IfOk result (λ _. IsStaged (parts_of self.new)) }
+        ensures read { (number : ℕ) → Reads result number FirstWord.Slots
+            (words_after (option_map (λ r. r.now) rest.entry)) (parts_of self.old) (parts_of self.new) }
     {
         self.slots = one_number(rest, 1, 64)? as u8;
         self.last = Some(Sort::Slots);
@@ -356,7 +441,9 @@ impl Reader {
     fn rows(&mut self, rest: Option<&[u8]>) -> Result<(), Stop>
         requires staged { IsStaged (parts_of self.old) }
         requires place { stands self.old.last Sort.Rows ≡ true }
-        ensures { IfOk result (λ _. IsStaged (parts_of self.new)) }
+        ensures staged { IfOk result (λ _. IsStaged (parts_of self.new)) }
+        ensures read { (number : ℕ) → Reads result number FirstWord.Rows
+            (words_after (option_map (λ r. r.now) rest.entry)) (parts_of self.old) (parts_of self.new) }
     {
         self.rows = one_number(rest, 1, 4000)? as u16;
         self.last = Some(Sort::Rows);
@@ -367,7 +454,9 @@ impl Reader {
     fn budget(&mut self, rest: Option<&[u8]>) -> Result<(), Stop>
         requires staged { IsStaged (parts_of self.old) }
         requires place { stands self.old.last Sort.Budget ≡ true }
-        ensures { IfOk result (λ _. IsStaged (parts_of self.new)) }
+        ensures staged { IfOk result (λ _. IsStaged (parts_of self.new)) }
+        ensures read { (number : ℕ) → Reads result number FirstWord.Budget
+            (words_after (option_map (λ r. r.now) rest.entry)) (parts_of self.old) (parts_of self.new) }
     {
         self.budget = one_number(rest, 1, 500_000)? as u32;
         self.last = Some(Sort::Budget);
@@ -379,7 +468,9 @@ impl Reader {
     fn module(&mut self, rest: Option<&[u8]>) -> Result<(), Stop>
         requires staged { IsStaged (parts_of self.old) }
         requires place { stands self.old.last Sort.Module ≡ true }
-        ensures { IfOk result (λ _. IsStaged (parts_of self.new)) }
+        ensures staged { IfOk result (λ _. IsStaged (parts_of self.new)) }
+        ensures read { (number : ℕ) → Reads result number FirstWord.Module
+            (words_after (option_map (λ r. r.now) rest.entry)) (parts_of self.old) (parts_of self.new) }
     {
         let module = module(rest)?;
         if has_module(&module.name, &self.modules) {
@@ -397,7 +488,9 @@ impl Reader {
     fn occupy(&mut self, rest: Option<&[u8]>) -> Result<(), Stop>
         requires staged { IsStaged (parts_of self.old) }
         requires place { stands self.old.last Sort.Occupy ≡ true }
-        ensures { IfOk result (λ _. IsStaged (parts_of self.new)) }
+        ensures staged { IfOk result (λ _. IsStaged (parts_of self.new)) }
+        ensures read { (number : ℕ) → Reads result number FirstWord.Occupy
+            (words_after (option_map (λ r. r.now) rest.entry)) (parts_of self.old) (parts_of self.new) }
     {
         let page = occupy(rest)?;
         if self.pages.len() >= MOST_OCCUPIED {
@@ -412,7 +505,9 @@ impl Reader {
     fn program(&mut self, rest: Option<&[u8]>) -> Result<(), Stop>
         requires ended { IsEnded (parts_of self.old) }
         requires place { stands self.old.last Sort.Program ≡ true }
-        ensures { IfOk result (λ _. IsStaged (parts_of self.new)) }
+        ensures staged { IfOk result (λ _. IsStaged (parts_of self.new)) }
+        ensures read { (number : ℕ) → Reads result number FirstWord.Program
+            (words_after (option_map (λ r. r.now) rest.entry)) (parts_of self.old) (parts_of self.new) }
     {
         let heading = own_line(rest)?;
         if has_program(&heading.name, &self.programs) {
@@ -431,7 +526,8 @@ impl Reader {
         requires staged { IsStaged (parts_of self.old) }
         requires place { stands self.old.last Sort.Instruction ≡ true }
         ensures staged { IfOk result (λ _. IsStaged (parts_of self.new)) }
-        ensures text { IfOk result (λ _. AddsInstr (instr_word_text word ∷ words_after (option_map (λ r. r.now) rest.entry)) (parts_of self.old) (parts_of self.new)) }
+        ensures read { Reads result number (FirstWord.Instr word)
+            (words_after (option_map (λ r. r.now) rest.entry)) (parts_of self.old) (parts_of self.new) }
     {
         let instr = instruction(word, rest)?;
         if self.code.len() >= MOST_INSTRUCTIONS {
@@ -447,7 +543,9 @@ impl Reader {
     fn schedule(&mut self, rest: Option<&[u8]>) -> Result<(), Stop>
         requires ended { IsEnded (parts_of self.old) }
         requires place { stands self.old.last Sort.Schedule ≡ true }
-        ensures { IfOk result (λ _. IsStaged (parts_of self.new)) }
+        ensures staged { IfOk result (λ _. IsStaged (parts_of self.new)) }
+        ensures read { (number : ℕ) → Reads result number FirstWord.Schedule
+            (words_after (option_map (λ r. r.now) rest.entry)) (parts_of self.old) (parts_of self.new) }
     {
         if !are_none(rest) {
             return Err(Stop::Fault(Kind::Words));
@@ -461,7 +559,8 @@ impl Reader {
         requires staged { IsStaged (parts_of self.old) }
         requires place { stands self.old.last Sort.Directive ≡ true }
         ensures staged { IfOk result (λ _. IsStaged (parts_of self.new)) }
-        ensures text { IfOk result (λ _. AddsLine (directive_word_text word ∷ words_after (option_map (λ r. r.now) rest.entry)) (parts_of self.old) (parts_of self.new)) }
+        ensures read { (number : ℕ) → Reads result number (FirstWord.Directive word)
+            (words_after (option_map (λ r. r.now) rest.entry)) (parts_of self.old) (parts_of self.new) }
     {
         let line = schedule_line(self.slots, word, rest)?;
         if self.schedule.len() >= MOST_LINES {
@@ -475,23 +574,18 @@ impl Reader {
     /// The script, at the end of the text, which is the line `number`.
     pub fn finish(self, number: u32) -> Result<Script, ScriptError>
         requires { IsStaged (parts_of self) }
+        ensures { Finishes result number (parts_of self) }
     {
-        match self.last {
-            None => Err(ScriptError::Fault {
-                line: number,
-                kind: Kind::NoHeader,
-            }),
-            Some(Sort::Directive) => Ok(self.into_script()),
-            Some(_) => Err(ScriptError::Fault {
-                line: number,
-                kind: Kind::Missing,
-            }),
+        match end_fault(self.last) {
+            Some(kind) => Err(ScriptError::Fault { line: number, kind }),
+            None => Ok(self.into_script()),
         }
     }
 
     fn into_script(self) -> Script
         requires staged { IsStaged (parts_of self) }
         requires place { stage self.last ≡ 10 }
+        ensures { HasParts result (parts_of self) }
     {
         Script {
             setup: Setup {

@@ -1,7 +1,10 @@
 //! Reads the text of a script.
 
-ghost use Rattle.std.specs.Prelude.{◌≡◌, ◌<◌, ◌∷◌, length};
+ghost use Rattle.std.specs.Prelude.{◌≡◌, ◌<◌, ◌∷◌, length, IfOk};
+ghost use Rattle.script_spec.specs.FirstFault.{fault_of};
+ghost use Rattle.script_spec.specs.Grammar.{IsScript};
 ghost use Rattle.script_spec.specs.Lines.{lines_of};
+ghost use Rattle.cyg_script.specs.Judged.{Tells};
 
 use crate::error::ScriptError;
 use crate::piece::cut;
@@ -23,7 +26,9 @@ fn first_line(text: &[u8]) -> (&[u8], bool, &[u8])
 }
 
 /// Reads the text of a script: the script, or the first fault of the text.
-pub fn read_script(alloc: Global, bytes: &[u8]) -> Result<Script, ScriptError> {
+pub fn read_script(alloc: Global, bytes: &[u8]) -> Result<Script, ScriptError>
+    ensures { Tells result (fault_of bytes.now) (λ script. IsScript bytes.now script) }
+{
     if bytes.len() > MOST_BYTES {
         return Err(ScriptError::Fault {
             line: 0,
