@@ -1,6 +1,6 @@
 use Rattle.std.proofs.Common.{◌≡◌, ◌+◌, ◌*◌, length, ap, ◌∙◌, arith}
 use Rattle.w32_base.specs.Targets.{are_targets_below}
-use Rattle.world_gen.proofs.Rounds.{code-length, places-below}
+use Rattle.world_gen.specs.ForkingLaws.{code-length, places-below}
 use Rattle.world_gen.proofs.main_program.Goals as goal
 
 pub invariant_of-result : goal.invariant_of-result
