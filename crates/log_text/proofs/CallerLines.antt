@@ -9,7 +9,7 @@ use Rattle.w32_base.specs.declared.event.Event.{Event}
 use Rattle.w32_base.specs.declared.entry.Entry.{Entry}
 use Rattle.log_spec.specs.Texts.{line}
 use Rattle.log_spec.specs.Events.{event_text, actor_of}
-use Rattle.log_spec.specs.Views.{is_call_event, call_line, call_lines_of, events_of}
+use Rattle.log_spec.specs.Views.{is_call_event, call_lines_of, events_of}
 use Rattle.log_text.specs.Callers.{caller, line_by, lines_by, IsNext}
 
 -- one entry more

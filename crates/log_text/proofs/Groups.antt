@@ -2,7 +2,6 @@
 use Rattle.std.proofs.Common.{◌≡◌, ℕ, zero, suc, ◌+◌, ◌-◌, ◌<◌, ◌≤◌, List, [], ◌++◌, length, take, drop, get_or, sym}
 use Rattle.std.proofs.Common.{◌∙◌, ap, refl, arith, append_assoc, append-nil, take-append-drop, add-one}
 use Rattle.w32_base.specs.declared.entry.Entry.{Entry}
-use Rattle.log_spec.specs.Views.{call_lines_of, call_lines_below, events_of}
 use Rattle.log_text.specs.Callers.{line_by, lines_by, groups_below, NoLinesFrom}
 use Rattle.log_text.proofs.CallerLines.{entry_more, lines_by-append, lines_by-more, lines_by_is}
 
@@ -26,13 +25,15 @@ unfolding groups_below
 groups-none entries = refl
 
 -- one process more
-pub groups-more : (n : ℕ) (entries : List Entry) → groups_below (n + 1) entries ≡ groups_below n entries ++ lines_by n entries
+pub groups-more : (n : ℕ) (entries : List Entry)
+    → groups_below (n + 1) entries ≡ groups_below n entries ++ lines_by n entries
 unfolding groups_below
 groups-more n entries =
     rw add-one (ap (λ (l : List ℕ). groups_below n entries ++ l) (sym (lines_by_is n entries)))
 
 -- processes without lines add nothing
-skipped : (n k : ℕ) (entries : List Entry) → NoLinesFrom n (n + k) entries → groups_below (n + k) entries ≡ groups_below n entries
+skipped : (n k : ℕ) (entries : List Entry) → NoLinesFrom n (n + k) entries
+    → groups_below (n + k) entries ≡ groups_below n entries
 skipped n zero entries none = let e : n + 0 ≡ n = omega arith in ap (λ (m : ℕ). groups_below m entries) e
 skipped n (suc k) entries none =
     let e : n + suc k ≡ n + k + 1 = omega arith in

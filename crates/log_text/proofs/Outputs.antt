@@ -1,6 +1,6 @@
 -- The terminal's line, and view `calls` with it.
 use Rattle.std.proofs.Common.{◌≡◌, ℕ, ◌+◌, ◌<◌, List, [], ◌∷◌, ◌++◌, length, take, drop, get_or, flat_map, codes}
-use Rattle.std.proofs.Common.{Result, OnOk, OnErr, inl, inr, refl, sym, ap, ◌∙◌, subst, append_assoc, append-nil, arith}
+use Rattle.std.proofs.Common.{Result, OnOk, OnErr, inl, inr, refl, sym, ap, ◌∙◌, subst, append_assoc, arith}
 use Rattle.std.proofs.Common.{take-append-drop}
 use Rattle.w32_base.specs.declared.entry.Entry.{Entry}
 use Rattle.w32_base.specs.declared.entry.View.{View}
@@ -15,7 +15,8 @@ use Rattle.log_text.specs.Pieces.{IsPiece, terminal_line, lines_of}
 use Rattle.log_text.specs.Writes.{Told, WritesAll, WritesPart}
 use Rattle.log_text.specs.Callers.{groups_below}
 use Rattle.log_text.proofs.Shown.{terminal_from, digits_next, digits_at}
-use Rattle.log_text.proofs.Writing.{writes_none, writes_both, writes_part, last_whole, last_part, all_weaker, part_weaker}
+use Rattle.log_text.proofs.Writing.{writes_none, writes_both, writes_part, last_whole, last_part, all_weaker}
+use Rattle.log_text.proofs.Writing.{part_weaker}
 use Rattle.log_text.proofs.Writing.{ok_weaker, err_weaker}
 
 -- a rest of a part of the whole stands in it
@@ -66,7 +67,8 @@ shown_part entries i e shown text a b c h is shown_is text_is first second =
     second)
 
 -- the text of what one entry shows
-pub shown_text : (start shown slice text : List ℕ) → start ≡ [] → slice ≡ shown → text ≡ start ++ flat_map byte_text slice
+pub shown_text : (start shown slice text : List ℕ) → start ≡ [] → slice ≡ shown
+    → text ≡ start ++ flat_map byte_text slice
     → text ≡ flat_map byte_text shown
 shown_text start shown slice text none slice_is is =
     is ∙ ap (λ (l : List ℕ). l ++ flat_map byte_text slice) none ∙ ap (flat_map byte_text) slice_is
@@ -221,7 +223,8 @@ calls_part r entries a b c first second =
     second
 
 -- the lines of the other views
-pub lines_whole : {T E : Type 0} (r : Result T E) (v w : View) (entries : List Entry) (text : List ℕ) (Q : List ℕ → Type 0)
+pub lines_whole : {T E : Type 0} (r : Result T E) (v w : View) (entries : List Entry) (text : List ℕ) (Q : List ℕ
+    → Type 0)
     (a b : Told) → v ≡ w → ((piece : List ℕ) → Q piece → IsPiece w entries piece) → lines_of w entries ≡ text
     → OnOk r (WritesAll Q text a b) → OnOk r (WritesAll (IsPiece v entries) (lines_of v entries) a b)
 lines_whole r v w entries text Q a b is f text_is h =
@@ -229,7 +232,8 @@ lines_whole r v w entries text Q a b is f text_is h =
     (subst (λ (l : List ℕ). OnOk r (WritesAll (IsPiece w entries) l a b)) (sym text_is)
     (ok_weaker r (all_weaker Q (IsPiece w entries) f text a b) h))
 
-pub lines_part : {T E : Type 0} (r : Result T E) (v w : View) (entries : List Entry) (text : List ℕ) (Q : List ℕ → Type 0)
+pub lines_part : {T E : Type 0} (r : Result T E) (v w : View) (entries : List Entry) (text : List ℕ) (Q : List ℕ
+    → Type 0)
     (a b : Told) → v ≡ w → ((piece : List ℕ) → Q piece → IsPiece w entries piece) → lines_of w entries ≡ text
     → OnErr r (WritesPart Q text a b) → OnErr r (WritesPart (IsPiece v entries) (lines_of v entries) a b)
 lines_part r v w entries text Q a b is f text_is h =

@@ -1,5 +1,6 @@
 -- What the entries show, as entries are added.
-use Rattle.std.proofs.Common.{◌≡◌, ℕ, suc, ◌+◌, ◌<◌, List, [], ◌∷◌, ◌++◌, length, take, drop, get_or, flat_map, Bool, true, false, not}
+use Rattle.std.proofs.Common.{◌≡◌, ℕ, ◌+◌, ◌<◌, List, [], ◌∷◌, ◌++◌, length, take, drop, get_or, flat_map}
+use Rattle.std.proofs.Common.{Bool, true, false, not}
 use Rattle.std.proofs.Common.{IsTrue, ◌↔◌, length-append}
 use Rattle.std.proofs.Common.{sym, ap, ◌∙◌, refl, arith, append_assoc, append-nil, take-append-drop}
 use Rattle.std.proofs.lemmas.Grind.{flat_map-append}
@@ -98,7 +99,8 @@ pub terminal_more : (terminal tty new : Terminal) (entries : List Entry) (i : �
     → e ≡ get_or entries i e → tty ≡ terminal_from terminal (take i entries)
     → new ≡ terminal_after tty e.call e.outcome → new ≡ terminal_from terminal (take (i + 1) entries)
 terminal_more terminal tty new entries i e h is tty_is new_is =
-    new_is ∙ ap (λ (t : Terminal). terminal_after t e.call e.outcome) tty_is ∙ sym (terminal_next terminal entries i e h is)
+    new_is ∙ ap (λ (t : Terminal). terminal_after t e.call e.outcome) tty_is
+    ∙ sym (terminal_next terminal entries i e h is)
 
 -- whether something is shown
 pub none_shown : IsTrue false ↔ (0 < 0)

@@ -1,7 +1,9 @@
 -- The lines of views `all` and `events`, as entries are added, and a whole log.
-use Rattle.std.proofs.Common.{◌≡◌, ℕ, suc, ◌+◌, ◌<◌, List, [], ◌∷◌, ◌++◌, length, take, drop, get_or, Option, None, Some}
-use Rattle.std.proofs.Common.{Result, Ok, Err, OnOk, OnErr, refl, sym, ap, subst, ◌∙◌, arith, append_assoc, append-nil, inl}
-use Rattle.std.proofs.Common.{take-append-drop, length-append, length-take}
+use Rattle.std.proofs.Common.{◌≡◌, ℕ, suc, ◌+◌, ◌<◌, List, [], ◌∷◌, ◌++◌, length, take, drop, get_or, Option, None}
+use Rattle.std.proofs.Common.{Some}
+use Rattle.std.proofs.Common.{Result, Ok, Err, OnOk, OnErr, refl, sym, ap, ◌∙◌, arith, append_assoc}
+use Rattle.std.proofs.Common.{append-nil, inl}
+use Rattle.std.proofs.Common.{take-append-drop, length-take}
 use Rattle.w32_base.specs.declared.event.Event.{Event}
 use Rattle.w32_base.specs.declared.entry.Entry.{Entry}
 use Rattle.w32_base.specs.declared.entry.End.{End}
@@ -13,7 +15,8 @@ use Rattle.log_spec.specs.Views.{view_text, end_text, entry_text, entry_lines, e
 use Rattle.log_text.specs.Pieces.{IsPiece, lines_of, event_line}
 use Rattle.log_text.specs.Writes.{Told, WritesAll, WritesPart}
 use Rattle.log_text.proofs.CallerLines.{entry_more}
-use Rattle.log_text.proofs.Writing.{writes_none, writes_both, writes_part, last_whole, last_part, all_weaker, part_weaker}
+use Rattle.log_text.proofs.Writing.{writes_none, writes_both, writes_part, last_whole, last_part, all_weaker}
+use Rattle.log_text.proofs.Writing.{part_weaker}
 use Rattle.log_text.proofs.Writing.{ok_weaker, err_weaker}
 
 -- lines of entries, and then of more

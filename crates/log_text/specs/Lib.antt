@@ -1,3 +1,4 @@
 pub mod Writes
 pub mod Pieces
 pub mod Callers
+pub mod PieceLaws

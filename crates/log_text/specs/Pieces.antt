@@ -29,7 +29,8 @@ IsPiece view.Calls entries piece = EndsOneLine piece ⊎ StandsIn (terminal_line
 
 -- no byte but the last is a line's end
 abbrev pub IsWithinLine : List ℕ → Type 0
-IsWithinLine piece = (body last : List ℕ) × (piece ≡ body ++ last) × All (λ b. b ≢ 10) body × ((last ≡ []) ⊎ (last ≡ 10 ∷ []))
+IsWithinLine piece =
+    (body last : List ℕ) × (piece ≡ body ++ last) × All (λ b. b ≢ 10) body × ((last ≡ []) ⊎ (last ≡ 10 ∷ []))
 
 -- the line of an event, where there is one
 abbrev pub event_line : Option Event → List ℕ

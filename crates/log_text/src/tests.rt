@@ -14,8 +14,16 @@ use w32_base::{
 };
 
 /// The log of `journal` in view `all`.
-const ALL: &[u8] =
-    b"log all\n1 key 0a | - | keyed | -\n2 turn 0 0 | tty 3 key | key 10 0 2 | key 0 0a\n3 turn 2 0 | tty 3 take 2 64 0 | line 1 | line 3 1 0a\n4 turn 2 0 | tty 3 put 2 1 0 0 | put 1 | write 3 1 61\n5 turn 1 0 | run | ran 2 | run 2 2\n6 turn 1 0 | cas 1 1 5 0 | word 5 | die 2 0 exit\n7 end 1 | - | ended 2 | -\n8 turn 1 0 | - | idle | -\ndone budget\n";
+const ALL: &[u8] = b"log all\n\
+    1 key 0a | - | keyed | -\n\
+    2 turn 0 0 | tty 3 key | key 10 0 2 | key 0 0a\n\
+    3 turn 2 0 | tty 3 take 2 64 0 | line 1 | line 3 1 0a\n\
+    4 turn 2 0 | tty 3 put 2 1 0 0 | put 1 | write 3 1 61\n\
+    5 turn 1 0 | run | ran 2 | run 2 2\n\
+    6 turn 1 0 | cas 1 1 5 0 | word 5 | die 2 0 exit\n\
+    7 end 1 | - | ended 2 | -\n\
+    8 turn 1 0 | - | idle | -\n\
+    done budget\n";
 
 /// Its log in view `events`.
 const EVENTS: &[u8] =
@@ -219,13 +227,22 @@ fn long_values_have_their_texts(rt: HostRuntime) -> Result<(), Fail> {
     let entries = long_journal()?;
     let (is_whole, sink) = log_of(rt.alloc(), &entries, End::Given, View::All, &[])?;
     assert!(rt; is_whole);
-    let text =
-        b"log all\n1 turn 1 0 | create 0 1,64 | noslot | kill 4001 -2147483648 4294967295 EINVAL\n2 turn 1 0 | writemem 5 data 0 cyg 512 64 | done | forkfail 2 placed core 0 10\n3 turn 1 0 | create 3 - | tablefull | action 2 17 handler 9 restart\n4 turn 1 0 | event 1 0 | state 2 2 15 | line 2 0 -\ndone given\n";
+    let text = b"log all\n\
+    1 turn 1 0 | create 0 1,64 | noslot | kill 4001 -2147483648 4294967295 EINVAL\n\
+    2 turn 1 0 | writemem 5 data 0 cyg 512 64 | done | forkfail 2 placed core 0 10\n\
+    3 turn 1 0 | create 3 - | tablefull | action 2 17 handler 9 restart\n\
+    4 turn 1 0 | event 1 0 | state 2 2 15 | line 2 0 -\n\
+    done given\n";
     assert_eq!(rt; sink.contents(), text.as_slice());
     let (is_whole, sink) = log_of(rt.alloc(), &entries, End::Given, View::Calls, &[])?;
     assert!(rt; is_whole);
-    let text =
-        b"log calls\nforkfail 2 placed core 0 10\naction 2 17 handler 9 restart\nline 2 0 -\nkill 4001 -2147483648 4294967295 EINVAL\ntty -\ndone given\n";
+    let text = b"log calls\n\
+    forkfail 2 placed core 0 10\n\
+    action 2 17 handler 9 restart\n\
+    line 2 0 -\n\
+    kill 4001 -2147483648 4294967295 EINVAL\n\
+    tty -\n\
+    done given\n";
     assert_eq!(rt; sink.contents(), text.as_slice());
     Ok(())
 }

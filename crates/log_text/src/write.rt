@@ -7,7 +7,7 @@ ghost use Rattle.cyg_io.specs.Sink.{AppendsPart, TakesOnly, EndsOneLine};
 ghost use Rattle.log_spec.specs.EventsText.{is_one_line};
 ghost use Rattle.log_spec.specs.Views.{view_text, end_text, events_of, event_lines, entry_lines, log_text};
 ghost use Rattle.log_text.specs.Writes.{told, WritesAll, WritesPart};
-ghost use Rattle.log_text.specs.Pieces.{IsPiece, lines_of, event_line};
+ghost use Rattle.log_text.specs.Pieces.{IsPiece, IsWithinLine, lines_of, event_line};
 
 use crate::calls::write_calls;
 use crate::entry::push_entry;
@@ -151,6 +151,7 @@ pub fn write_log<K: Sink>(
     ensures failed { OnErr result (RoseBy 1 (K.faults sink.old) (K.faults sink.new)) }
     ensures part { OnErr result (AppendsPart (K.held sink.old) (K.held sink.new) (log_text view entries.now end)) }
     ensures pieces { TakesOnly (IsPiece view entries.now) (K.pieces sink.old) (K.pieces sink.new) }
+    ensures within { TakesOnly IsWithinLine (K.pieces sink.old) (K.pieces sink.new) }
 {
     let mut line = Line::new();
     line.push_text(view_line(view));

@@ -38,7 +38,8 @@ loop-entry-preserved g c =
       some = elim c.if-some.branch [
         | then-some w ↦
             some_kept opening_terminal c.args.entries.now c.loop-entry.entry-index c.entry-item.result _ _ _
-            c.loop-entry-test.true c.entry-item.is shown_is c.loop-entry.invariant.some w.if-some.true (w.some-is ∙ w.if-some.true)
+            c.loop-entry-test.true c.entry-item.is shown_is c.loop-entry.invariant.some w.if-some.true (w.some-is
+            ∙ w.if-some.true)
         | else-some w ↦
             some_found opening_terminal c.args.entries.now c.loop-entry.entry-index c.entry-item.result _ _ _ _
             c.loop-entry-test.true c.entry-item.is shown_is c.loop-entry.invariant.some w.if-some.false w.some-is

@@ -1,4 +1,3 @@
-use Rattle.std.proofs.Common.{arith}
 use Rattle.log_text.proofs.OneLine.{pair_one_line}
 use Rattle.log_text.proofs.words.push_byte.Goals as goal
 

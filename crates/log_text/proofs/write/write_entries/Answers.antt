@@ -14,7 +14,8 @@ pub returns-in_err-write_to-clause-part : goal.returns-in_err-write_to-clause-pa
 returns-in_err-write_to-clause-part g c =
     on_err _ (writes_part
     EndsOneLine _ _ _ _ _ _ _
-    (entries_at c.args.entries.now c.loop-index.index c.index-entries-index.result _ c.loop-index-test.true c.index-entries-index.is
+    (entries_at c.args.entries.now c.loop-index.index c.index-entries-index.result _ c.loop-index-test.true
+    c.index-entries-index.is
     c.push_entry.ensures).1
     c.loop-index.invariant.written c.in_err-write_to.ensures.part)
 
@@ -23,7 +24,8 @@ loop-index-preserved g c = record {
   cleared = c.in_ok-write_to.ensures.cleared;
   written = writes_both
       EndsOneLine _ _ _ _ _ _
-      (entries_next c.args.entries.now c.loop-index.index c.index-entries-index.result _ c.loop-index-test.true c.index-entries-index.is
+      (entries_next c.args.entries.now c.loop-index.index c.index-entries-index.result _ c.loop-index-test.true
+      c.index-entries-index.is
       c.push_entry.ensures)
       c.loop-index.invariant.written c.in_ok-write_to.ensures.whole;
 }

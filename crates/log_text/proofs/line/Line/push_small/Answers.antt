@@ -5,4 +5,5 @@ use Rattle.log_text.proofs.line.Line.push_small.Goals as goal
 
 pub push_text-requires-clause-one_line : goal.push_text-requires-clause-one_line
 push_text-requires-clause-one_line c =
-    ap is_one_line (c.as_bytes.ensures.value ∙ c.format.ensures.text) ∙ decimal_one_line c.args.number (omega (arith, c.ranges.number.fits))
+    ap is_one_line (c.as_bytes.ensures.value ∙ c.format.ensures.text)
+    ∙ decimal_one_line c.args.number (omega (arith, c.ranges.number.fits))
