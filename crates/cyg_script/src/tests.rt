@@ -182,3 +182,31 @@ fn refuses_faulty_schedules(rt: HostRuntime) -> Result<(), Fail> {
     assert!(rt; refuses(&rt, &text, 6, Kind::Target));
     Ok(())
 }
+
+// The fault of a script that is cut off behind these bytes: without a whole first line it has no header, behind a
+// line's end the next line is missing, and else the last line has no end.
+fn fault_of_cut(bytes: &[u8]) -> (u32, Kind) {
+    if bytes.len() < 11 {
+        return (1, Kind::NoHeader);
+    }
+    let next = |line: u32, byte: &u8| line.saturating_add(u32::from(*byte == b'\n'));
+    let line = bytes.iter().fold(1, next);
+    if bytes.last() == Some(&b'\n') {
+        (line, Kind::Missing)
+    } else {
+        (line, Kind::Unfinished)
+    }
+}
+
+#[test]
+fn each_cut_of_a_script_has_its_fault(rt: HostRuntime) -> Result<(), Fail> {
+    let text: &[u8] = b"cygscript 1\nslots 1\nrows 1\nbudget 100000\nprogram main heap 0 stack 64\n\
+getpid\nkill 2 0\nexit 0\nschedule\nsettle\n";
+    for len in 0..text.len() {
+        let cut = &text[..len];
+        let (line, kind) = fault_of_cut(cut);
+        assert!(rt; refuses(&rt, cut, line, kind), "cut behind {len}");
+    }
+    assert!(rt; read_script(rt.alloc(), text).is_ok());
+    Ok(())
+}
