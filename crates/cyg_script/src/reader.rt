@@ -121,6 +121,7 @@ fn is_skipped(bytes: &[u8]) -> bool
     }
 }
 
+/// Whether the word is `cygscript`.
 fn is_cygscript(word: FirstWord) -> bool
     ensures { result ≡ is_sort Sort.Header (sort_of word) }
 {
@@ -278,7 +279,7 @@ impl Reader {
         let first = first_word(word);
         if ends_program(first) {
             self.end_program(alloc)?;
-            at_line(number, self.ending(number, form, first, rest))
+            at_line(number, self.ending(form, first, rest))
         } else {
             at_line(number, self.words(number, form, first, rest))
         }
@@ -318,7 +319,6 @@ impl Reader {
     /// The words of a line that isn't skipped, and that begins with `program` or `schedule`.
     fn ending(
         &mut self,
-        number: u32,
         form: Option<Kind>,
         first: Option<FirstWord>,
         rest: Option<&[u8]>,
@@ -326,8 +326,8 @@ impl Reader {
         requires closed { IsEnded (parts_of self.old) }
         requires word { ends_program first ≡ true }
         ensures staged { IfOk result (λ _. IsStaged (parts_of self.new)) }
-        ensures read { ReadsWords result number form first (words_after (option_map (λ r. r.now) rest.entry))
-            (parts_of self.old) (parts_of self.new) }
+        ensures read { (number : ℕ) → ReadsWords result number form first
+            (words_after (option_map (λ r. r.now) rest.entry)) (parts_of self.old) (parts_of self.new) }
     {
         let Some(last) = self.last else {
             return Err(Stop::Fault(Kind::NoHeader));
@@ -363,7 +363,7 @@ impl Reader {
             (parts_of self.old) (parts_of self.new) }
     {
         let Some(last) = self.last else {
-            return self.header(number, form, first, rest);
+            return self.header(form, first, rest);
         };
         if let Some(kind) = form {
             return Err(Stop::Fault(kind));
@@ -380,7 +380,6 @@ impl Reader {
     /// `cygscript 1`.
     fn header(
         &mut self,
-        number: u32,
         form: Option<Kind>,
         first: Option<FirstWord>,
         rest: Option<&[u8]>,
@@ -388,8 +387,8 @@ impl Reader {
         requires staged { IsStaged (parts_of self.old) }
         requires place { stage self.old.last ≡ 0 }
         ensures staged { IfOk result (λ _. IsStaged (parts_of self.new)) }
-        ensures read { ReadsWords result number form first (words_after (option_map (λ r. r.now) rest.entry))
-            (parts_of self.old) (parts_of self.new) }
+        ensures read { (number : ℕ) → ReadsWords result number form first
+            (words_after (option_map (λ r. r.now) rest.entry)) (parts_of self.old) (parts_of self.new) }
     {
         if !is_header(first, rest) {
             return Err(Stop::Fault(Kind::NoHeader));
