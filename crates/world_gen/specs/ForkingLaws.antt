@@ -94,7 +94,8 @@ forking_valid n s some few h =
 -- it has 3 n + 10 lines
 lines_of_forking : (n : ℕ) (s : Script) → IsForking n s → length (script_words s) ≡ 3 * n + 10
 lines_of_forking n s h =
-    let code : length (map instr_words h.program.code) ≡ length h.program.code = length-map h.program.code instr_words in
+    let code : length (map instr_words h.program.code) ≡ length h.program.code =
+    length-map h.program.code instr_words in
     let size : length h.program.code ≡ 3 * n + 3 = rw h.code (code-length n) in
     let end : List (List (List ℕ)) = (codes "schedule" ∷ []) ∷ (codes "settle" ∷ []) ∷ [] in
     let whole : length ((program_lines h.program ++ []) ++ end) ≡ length (program_lines h.program ++ []) + 2 =
