@@ -28,3 +28,4 @@ pub mod Woken
 pub mod WokenLaws
 pub mod Holding
 pub mod PosixOrphans
+pub mod WholePostLaws
