@@ -43,13 +43,6 @@ impl Line {
         }
     }
 
-    /// The bytes.
-    pub fn as_slice(&self) -> &[u8]
-        ensures { result.now ≡ self.now }
-    {
-        self.bytes.as_slice()
-    }
-
     /// Adds a text at the end.
     pub fn push_text(&mut self, text: &[u8])
         requires room { length self.old + length text.now ≤ 639 }
