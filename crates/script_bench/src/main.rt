@@ -1,5 +1,5 @@
 //! Reads a script on standard input and prints how many instructions and how many lines of a schedule it has, or its
-//! first fault, which ends it with status 3. `bench/script.sh` times it.
+//! first fault, which ends it with status 3. `bench/run_script.sh` times it.
 #![tactic(auto)]
 
 use anyhow::Result;

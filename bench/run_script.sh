@@ -1,6 +1,6 @@
 #!/bin/sh
 # Times the reading of scripts of the largest sizes, as `rt run` builds script_bench, beside `wc -l` of the same files:
-# one run, on one machine. Prints the seconds of each and the ratio. Usage: bench/script.sh [TIMES]
+# one run, on one machine. Prints the seconds of each and the ratio. Usage: bench/run_script.sh [TIMES]
 set -eu
 top=$(cd "$(dirname "$0")/.." && pwd)
 times=${1:-20}
