@@ -1,12 +1,13 @@
 -- A state in which the handles of a process are closed one after another.
-use Rattle.std.proofs.Common.{◌≡◌, inl, inr, ℕ, ◌+◌, ◌<◌, true, List, []}
-use Rattle.std.proofs.Common.{◌∷◌, Some, None, refl, sym, ap, ◌∙◌, arith}
+use Rattle.std.proofs.Common.{◌≡◌, inl, inr, ℕ, ◌+◌, ◌<◌, Bool, true, false, ◌&&◌, ◌||◌, nat_eq}
+use Rattle.std.proofs.Common.{if◌then◌else◌, List, [], ◌∷◌, Some, None, refl, sym, ap, ◌∙◌, arith}
 use Rattle.std.proofs.lemmas.Bool.{cases_eq}
 use Rattle.script_spec.specs.declared.script.Script.{Script}
 use Rattle.win32_spec.specs.Handles.{Handle, handle_of, without_handle, AreRisingFrom}
 use Rattle.win32_spec.specs.State.{NumberedObject, Process, Win32State}
-use Rattle.win32_spec.specs.Lookup.{is_alive, process_of, change_process, with_handles}
-use Rattle.win32_spec.specs.Ends.{kept_processes, swept}
+use Rattle.win32_spec.specs.Lookup.{is_alive, process_of, process_in, number_of, number_in, change_process}
+use Rattle.win32_spec.specs.Lookup.{with_handles}
+use Rattle.win32_spec.specs.Ends.{held_objects, is_process_held, kept_processes, swept}
 use Rattle.win32_spec.specs.Named.{handles_of, handles_by}
 use Rattle.win32_spec.specs.WellFormed.{IsWellFormed}
 use Rattle.win32_spec.specs.LookupLaws.{same, not_none, process_of-change_same, process_of-change_other}
@@ -154,3 +155,55 @@ module _ (script : Script) (s : Win32State) (h : IsWellFormed script s) (w : ℕ
   closing-empty mid c =
       closing-found mid 65 c
       ∙ ap (λ hs. Some (record p { handles = hs })) (no_handles c.handles c.rising c.closed)
+
+-- The live process of a slot, where handles change and ended processes go.
+pub process_in-kept : (os : List NumberedObject) (ps : List Process) (slot : ℕ)
+    → process_in (kept_processes os ps) slot ≡ process_in ps slot
+process_in-kept os [] slot = refl
+process_in-kept os (p ∷ ps) slot =
+    by_life (is_alive p.life) refl (is_process_held os p.number) (process_in-kept os ps slot)
+  where
+    by_life : (b : Bool) → is_alive p.life ≡ b → (c : Bool)
+        → process_in (kept_processes os ps) slot ≡ process_in ps slot
+        → process_in (if b || c then p ∷ kept_processes os ps else kept_processes os ps) slot ≡
+        process_in (p ∷ ps) slot
+    by_life true e c rest = rw rest refl
+    by_life false e true rest = rw (e, rest) refl
+    by_life false e false rest = rw e rest
+
+pub number_of-with_handles : (w : ℕ) (hs : List Handle) (ps : List Process) (slot : ℕ)
+    → number_of (process_in (change_process w (λ x. record x { handles = hs }) ps) slot) ≡
+    number_of (process_in ps slot)
+number_of-with_handles w hs [] slot = refl
+number_of-with_handles w hs (p ∷ ps) slot =
+    by_test (nat_eq p.number w) (number_of-with_handles w hs ps slot)
+  where
+    rest : List Process
+    rest = change_process w (λ x. record x { handles = hs }) ps
+
+    by_test : (b : Bool) → number_of (process_in rest slot) ≡ number_of (process_in ps slot)
+        → number_of (process_in ((if b then record p { handles = hs } else p) ∷ rest) slot) ≡
+        number_of (process_in (p ∷ ps) slot)
+    by_test true same = by_slot (is_alive p.life && nat_eq p.slot slot) same
+      where
+        by_slot : (d : Bool) → number_of (process_in rest slot) ≡ number_of (process_in ps slot)
+            → number_of (if d then Some (record p { handles = hs }) else process_in rest slot) ≡
+            number_of (if d then Some p else process_in ps slot)
+        by_slot true e = refl
+        by_slot false e = e
+    by_test false same = by_slot (is_alive p.life && nat_eq p.slot slot) same
+      where
+        by_slot : (d : Bool) → number_of (process_in rest slot) ≡ number_of (process_in ps slot)
+            → number_of (if d then Some p else process_in rest slot) ≡
+            number_of (if d then Some p else process_in ps slot)
+        by_slot true e = refl
+        by_slot false e = e
+
+-- so numbers stay in their slots
+pub number_in-closing : (s mid : Win32State) (w first slot : ℕ) → IsClosing s mid w first
+    → number_in mid slot ≡ number_in s slot
+number_in-closing s mid w first slot c =
+    ap (λ (m : Win32State). number_in m slot) c.after
+    ∙ ap number_of (process_in-kept (held_objects (with_handles s w c.handles).processes s.objects)
+    (with_handles s w c.handles).processes slot)
+    ∙ number_of-with_handles w c.handles s.processes slot

@@ -1,6 +1,6 @@
 -- A process that is made in the tables, as their state shows it, and what is found on the way.
 use Rattle.std.proofs.Common.{◌≡◌, ◌≢◌, inl, inr, ℕ, ◌+◌, ◌<◌, Bool, true, false, ◌||◌, List, [], ◌∷◌, length}
-use Rattle.std.proofs.Common.{Option, Some, None, IsSome, refl, sym, ap, ◌∙◌, subst, arith}
+use Rattle.std.proofs.Common.{zero, suc, ◌*◌, slice_index_or, Option, Some, None, IsSome, refl, sym, ap, ◌∙◌, subst, arith}
 use Rattle.std.proofs.lemmas.Bool.{cases_eq}
 use Rattle.w32_base.specs.declared.call.Call.{Call}
 use Rattle.w32_base.specs.declared.setup.Program.{Program}
@@ -17,7 +17,7 @@ use Rattle.win32_spec.specs.WellFormed.{AreRisingObjects}
 use Rattle.win32_spec.specs.LookupLaws.{same, differs}
 use Rattle.win32_spec.specs.ObjectLaws.{rising_objects-bound}
 use Rattle.w32_handles.specs.Table.{Kept}
-use Rattle.w32_handles.specs.Shown.{objects_of}
+use Rattle.w32_handles.specs.Shown.{object_shown, objects_from, objects_of}
 use Rattle.w32_process.specs.Places.{made_place}
 use Rattle.w32_process.specs.Table.{Table, place_at, number_at, IsLowestEmpty}
 use Rattle.w32_process.specs.Table as table
@@ -124,3 +124,66 @@ state-made posted posted' placed placed' f t sound places left keys slot within 
     still : number_at (table.with_made t slot number program listed).slots its_slot ≡ Some w
     still =
         number_at-set_other t.slots slot its_slot (made_place t.next number program listed) aside ∙ stands
+
+-- It is the first of the places whose object is that of the process.
+module _ {K : Type 0} (f : K → Object) (v : ℕ) where
+  -- none of the first places has the object of the process
+  abbrev pub IsNotBelow : List (Option (Kept K)) → ℕ → Type 0
+  IsNotBelow places n = (k : ℕ) → k < n → object_shown f (slice_index_or places k None) ≢ Some (ProcessObject v)
+
+  is_of : (x : Object) → is_object_of x v ≡ true → x ≡ ProcessObject v
+  is_of (ProcessObject u) t =
+      elim (cases_eq u v) [ inl n ↦ ap ProcessObject n | inr d ↦ let s = differs u v d in absurd (cc) ]
+  is_of (Section words) t = absurd (cc)
+  is_of (Event event) t = absurd (cc)
+  is_of (Mutex owner) t = absurd (cc)
+  is_of (Pipe bytes) t = absurd (cc)
+  is_of (TerminalObject terminal) t = absurd (cc)
+
+  absent-from : (place : ℕ) (places : List (Option (Kept K))) → IsNotBelow places (length places)
+      → process_object (objects_from f place places) v ≡ None
+  absent-from place [] none = refl
+  absent-from place (None ∷ places) none =
+      absent-from (place + 1) places (λ k l. none (suc k) (omega arith))
+  absent-from place (Some kept ∷ places) none =
+      by_test (is_object_of (f kept.object) v) refl
+      (absent-from (place + 1) places (λ k l. none (suc k) (omega arith)))
+    where
+      by_test : (b : Bool) → is_object_of (f kept.object) v ≡ b
+          → process_object (objects_from f (place + 1) places) v ≡ None
+          → process_object (objects_from f place (Some kept ∷ places)) v ≡ None
+      by_test true t rest = absurd (none 0 (omega arith) (ap Some (is_of (f kept.object) t)))
+      by_test false t rest = rw t rest
+
+  found-from : (place k : ℕ) (places : List (Option (Kept K))) → IsNotBelow places k
+      → object_shown f (slice_index_or places k None) ≡ Some (ProcessObject v)
+      → process_object (objects_from f place places) v ≡ Some (2 * (place + k))
+  found-from place k [] none at = absurd (cc)
+  found-from place zero (None ∷ places) none at = absurd (cc)
+  found-from place zero (Some kept ∷ places) none at =
+      let its : f kept.object ≡ ProcessObject v = cc in
+      let t = same v v refl in
+      let n : place + 0 ≡ place = omega arith in
+      rw (its, t, n) refl
+  found-from place (suc k) (None ∷ places) none at =
+      let n : place + suc k ≡ place + 1 + k = omega arith in
+      rw n (found-from (place + 1) k places (λ j l. none (suc j) (omega arith)) at)
+  found-from place (suc k) (Some kept ∷ places) none at =
+      by_test (is_object_of (f kept.object) v) refl
+      (found-from (place + 1) k places (λ j l. none (suc j) (omega arith)) at)
+    where
+      by_test : (b : Bool) → is_object_of (f kept.object) v ≡ b
+          → process_object (objects_from f (place + 1) places) v ≡ Some (2 * (place + 1 + k))
+          → process_object (objects_from f place (Some kept ∷ places)) v ≡ Some (2 * (place + suc k))
+      by_test true t rest = absurd (none 0 (omega arith) (ap Some (is_of (f kept.object) t)))
+      by_test false t rest = let n : place + suc k ≡ place + 1 + k = omega arith in rw (t, n) rest
+
+  pub process_object-absent : (places : List (Option (Kept K))) → IsNotBelow places (length places)
+      → process_object (objects_of f places) v ≡ None
+  process_object-absent places none = absent-from 0 places none
+
+  pub process_object-first : (places : List (Option (Kept K))) (k : ℕ) → IsNotBelow places k
+      → object_shown f (slice_index_or places k None) ≡ Some (ProcessObject v)
+      → process_object (objects_of f places) v ≡ Some (2 * k)
+  process_object-first places k none at =
+      found-from 0 k places none at ∙ ap (λ n. Some (2 * n)) (let n : 0 + k ≡ k = omega arith in n)
