@@ -15,12 +15,10 @@ const NO_SCRIPT: u8 = 3;
 
 /// How many instructions the programs of a script have.
 fn instructions(script: &Script) -> usize {
-    script
-        .setup
-        .programs
-        .as_slice()
-        .iter()
-        .fold(0, |sum: usize, program| sum.saturating_add(program.code.len()))
+    script.setup.programs.as_slice().iter().fold(
+        0,
+        |sum: usize, program| sum.saturating_add(program.code.len()),
+    )
 }
 
 fn main(rt: HostRuntime) -> Result<ExitCode> {
