@@ -317,3 +317,11 @@ is_none_from (Some x) b is set = absurd (true≢false (is ∙ ap not set))
 
 pub is_some_from : (r : Option ℕ) (b : Bool) → is_some r ≡ not b → b ≡ false → IsSome r
 is_some_from r b is unset = is ∙ ap not unset
+
+-- the handles are the places that have something
+pub length-handles_from : (n : ℕ) (ps : List (Option ℕ)) → length (handles_from n ps) ≡ count_by is_some ps
+length-handles_from n [] = refl
+length-handles_from n (None ∷ ps) =
+    omega (arith, length-handles_from (n + 1) ps, sum_by-cons (λ (p : Option ℕ). cond (is_some p) 1 0) None ps)
+length-handles_from n (Some q ∷ ps) =
+    omega (arith, length-handles_from (n + 1) ps, sum_by-cons (λ (p : Option ℕ). cond (is_some p) 1 0) (Some q) ps)

@@ -1,6 +1,6 @@
 //! The handles of a process. A process has up to 64 of them, under numbers from 1 to 64.
 
-ghost use Rattle.std.specs.Prelude.{◌≡◌, ℕ, ◌+◌, ◌<◌, ◌↔◌, [], length, All, IsErr, IsOk, IsSome, IfOk, OnErr, OnOk, MatchOption, Some, None, slice_index_or};
+ghost use Rattle.std.specs.Prelude.{◌≡◌, ℕ, ◌+◌, ◌<◌, ◌↔◌, [], length, All, IsTrue, IsErr, IsOk, IsSome, IfOk, OnErr, OnOk, MatchOption, Some, None, slice_index_or};
 ghost use Rattle.win32_spec.specs.Handles.{handle_of, with_handle, without_handle, listed_handles, holders_of, IsLowestFree, AreRisingFrom};
 
 use std::marker::Model;
@@ -117,6 +117,26 @@ impl Handles {
             }
         }
         count
+    }
+
+    /// How many handles there are.
+    pub fn len(&self) -> usize
+        ensures { result ≡ length self.now }
+    {
+        let mut count = 0;
+        for place in &self.places {
+            if place.is_some() {
+                count += 1;
+            }
+        }
+        count
+    }
+
+    /// Whether there are none.
+    pub fn is_empty(&self) -> bool
+        ensures { IsTrue result ↔ (self.now ≡ []) }
+    {
+        self.len() == 0
     }
 
     /// What a handle names, or none exactly where no handle has this number.

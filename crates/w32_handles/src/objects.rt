@@ -1,6 +1,6 @@
 //! The objects that handles name. Each of them stays in the table while somebody holds it.
 
-ghost use Rattle.std.specs.Prelude.{◌≡◌, ℕ, ◌+◌, ◌/◌, ◌%◌, ◌<◌, ◌≤◌, Some, None, IsSome, IsSomeAnd, IfOk};
+ghost use Rattle.std.specs.Prelude.{◌≡◌, ℕ, ◌+◌, ◌/◌, ◌%◌, ◌<◌, ◌≤◌, ◌↔◌, Some, None, IsTrue, IsSome, IsSomeAnd, IfOk};
 ghost use Rattle.std.specs.Borrow.{sem};
 ghost use Rattle.w32_handles.specs.Table.{object_at, Changes, one_more, one_less, freed};
 
@@ -140,6 +140,21 @@ impl<K: Drop> Objects<K> {
         ensures held { IsSomeAnd (object_at self.now o) (λ kept. 0 < kept.holders) }
     {
         self.slab[place_of(o)].object()
+    }
+
+    /// How many places the table has at the most. The object at a place has twice its number.
+    pub fn places(&self) -> usize
+        ensures all { (o : ℕ) → result ≤ o / 2 → object_at self.now o ≡ None }
+        ensures range { result ≤ 2147483648 }
+    {
+        self.slab.capacity()
+    }
+
+    /// Whether an object is in the table.
+    pub fn contains(&self, o: ObjectNo) -> bool
+        ensures { IsTrue result ↔ IsSome (object_at self.now o) }
+    {
+        self.slab.contains(place_of(o))
     }
 
     /// An object, to change it.

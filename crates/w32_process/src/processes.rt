@@ -144,6 +144,14 @@ impl Processes {
         }
     }
 
+    /// The place in the script of the program of the process in a slot, or none for the host.
+    pub fn program(&self, slot: Slot) -> Option<u8>
+        requires { IsSome (number_at self.now.slots slot) }
+        ensures { result ≡ (place_at self.now.slots slot).program }
+    {
+        self.seats[place(slot)].program()
+    }
+
     /// The handles of the process in a slot.
     pub fn handles(&self, slot: Slot) -> &Handles
         requires { IsSome (number_at self.now.slots slot) }

@@ -1,0 +1,8 @@
+mod Slots
+mod Changing
+mod KindSteps
+mod PipeSteps
+mod Called
+mod Keeping
+mod Words
+mod Processes

@@ -1,0 +1,6 @@
+pub mod Placed
+pub mod Kinds
+pub mod Running
+pub mod Contract
+pub mod View
+pub mod Sound

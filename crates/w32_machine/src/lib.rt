@@ -1,0 +1,11 @@
+//! The modelled Win32: its processes with their handles, memory and posted calls, the objects that they share, and what
+//! each call of a thread does to them.
+#![tactic(auto)]
+
+mod caller;
+mod kind;
+mod machine;
+mod placements;
+
+pub use machine::Machine;
+pub use w32_section::BadIndex;
