@@ -1,5 +1,5 @@
 -- The calls that change the object that a handle names: each is the step that it is to be, and the tables stay sound.
-use Rattle.std.proofs.Common.{◌≡◌, ℕ, ◌≤◌, true, Some, subst, sym, arith}
+use Rattle.std.proofs.Common.{◌≡◌, ℕ, ◌≤◌, true, Some, subst, refl, sym, arith}
 use Rattle.std.specs.Option.{IsSomeAnd}
 use Rattle.w32_base.specs.declared.call.Call.{Call}
 use Rattle.w32_base.specs.declared.call.Call.TheVariants as call

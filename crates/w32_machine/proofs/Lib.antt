@@ -6,3 +6,5 @@ mod Called
 mod Keeping
 mod Words
 mod Processes
+mod Signalled
+mod Readiness

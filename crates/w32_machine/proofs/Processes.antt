@@ -2,14 +2,14 @@
 use Rattle.std.proofs.Common.{◌≡◌, ◌⊎◌, ◌∙◌, inl, inr, ℕ, Option, Some, None, IsSome, IfSome, MatchOption, refl, sym, ap, subst}
 use Rattle.std.specs.Option.{IsSomeAnd}
 use Rattle.w32_base.specs.declared.call.Reply.TheVariants as reply
-use Rattle.win32_spec.specs.State.{ProcessObject}
+use Rattle.win32_spec.specs.State.{ProcessObject, Process, Win32State}
 use Rattle.win32_spec.specs.Lookup.{process_of, number_in, object_number, object_of}
-use Rattle.win32_spec.specs.Named.{named_by, object_number_by, object_by, process_named}
+use Rattle.win32_spec.specs.Named.{named_by, object_number_by, object_by, process_named, Gives}
 use Rattle.win32_spec.specs.CallEffects.{object_by-found, is_process}
 use Rattle.win32_spec.specs.ProcessCalls.{code_reply, ExitCodeStep}
 use Rattle.w32_handles.specs.Table.{object_at}
-use Rattle.w32_process.specs.Table.{number_at, code_of, IsLive}
-use Rattle.w32_process.specs.TableLaws.{kept_at-some}
+use Rattle.w32_process.specs.Table.{number_at, place_at, code_of, IsLive}
+use Rattle.w32_process.specs.TableLaws.{kept_at, kept_at-some}
 use Rattle.w32_process.specs.FoundLaws.{slot_of, process_of-live, process_of-ended}
 use Rattle.w32_process.specs.ClosedLaws.{kept-known}
 use Rattle.w32_machine.specs.Contract.{IsCaller, LivesOnlyIn}
@@ -31,7 +31,7 @@ pub record IsNamed (now : Running) (w h : ℕ) (found : Option (ℕ × ℕ)) : T
   pub slot : IfSome found (λ p. LivesOnlyIn now.win32 p.0 p.1)
 
 module _ (m : Inside) (sound : IsSound m) (now : Running) (shows : view_of m ≡ now) where
-  numbers : (k : ℕ) → number_at m.processes.slots k ≡ number_in now.win32 k
+  pub numbers : (k : ℕ) → number_at m.processes.slots k ≡ number_in now.win32 k
   numbers k = sym (number_in-at m sound k) ∙ ap (λ (r : Running). number_in r.win32 k) shows
 
   by_kind : (w h n : ℕ) (x : Kind) → object_by now.win32 w h ≡ Some (shown x)

@@ -1,5 +1,5 @@
 -- The section is where the machine keeps its number.
-use Rattle.std.proofs.Common.{◌≡◌, ◌∙◌, ℕ, ◌+◌, List, [], ◌∷◌, Option, Some, None, IsSome, IfSome, Result}
+use Rattle.std.proofs.Common.{◌≡◌, ◌≢◌, ◌∙◌, ℕ, ◌+◌, ◌*◌, ◌/◌, List, [], ◌∷◌, Option, Some, None, IsSome, IfSome, Result}
 use Rattle.std.proofs.Common.{MatchResult, refl, sym, ap, subst, arith}
 use Rattle.std.specs.Option.{IsSomeAnd}
 use Rattle.w32_base.specs.declared.call.Reply.TheVariants as reply
@@ -10,7 +10,7 @@ use Rattle.win32_spec.specs.LookupLaws.{same, differs, same_some}
 use Rattle.win32_spec.specs.ObjectLaws.{rising_objects-bound}
 use Rattle.win32_spec.specs.WellFormed.{AreRisingObjects}
 use Rattle.w32_handles.specs.Table.{Kept, object_at}
-use Rattle.w32_handles.specs.Shown.{object_shown}
+use Rattle.w32_handles.specs.Shown.{object_shown, objects_of}
 use Rattle.w32_handles.specs.ShownLaws.{object_of-named, rising-objects}
 use Rattle.w32_section.specs.declared.BadIndex.{BadIndex}
 use Rattle.w32_machine.specs.declared.kind.Kind.{Kind}

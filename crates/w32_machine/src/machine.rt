@@ -1,9 +1,10 @@
 //! The machine: its processes, its objects, the posted calls, the placed modules and the console's keys.
 
-ghost use Rattle.std.specs.Prelude.{◌≡◌, ◌+◌, ◌*◌, ◌<◌, length, IfSome, IsSome, MatchResult, option_copied};
+ghost use Rattle.std.specs.Prelude.{◌≡◌, ◌+◌, ◌*◌, ◌<◌, ◌↔◌, length, IsTrue, IfSome, IsSome, MatchOption, MatchResult, option_copied};
 ghost use Rattle.w32_base.specs.declared.call.Reply.TheVariants as reply;
 ghost use Rattle.win32_spec.specs.Objects.{load_reply};
 ghost use Rattle.win32_spec.specs.Lookup.{process_in, thread_at, number_in, section_words};
+ghost use Rattle.win32_spec.specs.Ready.{IsQuiet, IsNextReady};
 ghost use Rattle.win32_spec.specs.Run.{Posts, with_key};
 ghost use Rattle.w32_machine.specs.Contract.{own_in};
 
@@ -20,7 +21,11 @@ use w32_section::BadIndex;
 mod naming;
 mod objects;
 mod processes;
+mod ready;
 mod words;
+
+/// How many threads there may be: three in each of 65 slots.
+const THREADS: u16 = 195;
 
 /// The modelled Win32. A contract sees the script that it runs, and its state.
 #[derive(Drop)]
@@ -67,6 +72,29 @@ impl Machine {
         if self.keys.push_back(b).is_err() {
             unreachable!()
         }
+    }
+
+    /// Whether no thread is ready.
+    pub fn quiet(&self) -> bool
+        ensures { IsTrue result ↔ IsQuiet self.now.win32 }
+    {
+        self.next_ready((Slot::new(64), ThreadNo::new(2))).is_none()
+    }
+
+    /// The next ready thread after the last one, by slot and then thread, going round.
+    pub fn next_ready(&self, last: (Slot, ThreadNo)) -> Option<(Slot, ThreadNo)>
+        ensures { MatchOption result (IsQuiet self.now.win32)
+            (λ next. IsNextReady self.now.win32 last.0 last.1 next.0 next.1) }
+    {
+        let from = 3 * u16::from(last.0.get()) + u16::from(last.1.get()) + 1;
+        for step in 0..THREADS {
+            let at = (from + step) % THREADS;
+            let (slot, thread) = (Slot::new((at / 3) as u8), ThreadNo::new((at % 3) as u8));
+            if self.is_ready(slot, thread) {
+                return Some((slot, thread));
+            }
+        }
+        None
     }
 
     /// The memory of the process in a slot, or none where the slot is empty.
