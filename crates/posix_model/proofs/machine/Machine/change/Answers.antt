@@ -1,0 +1,17 @@
+use Rattle.std.proofs.Common.{◌∙◌, ap}
+use Rattle.posix_spec.specs.State.{Record}
+use Rattle.posix_model.specs.Changes.{change_of}
+use Rattle.posix_model.specs.Machine.{state_of}
+use Rattle.posix_model.specs.Shown.{record_of}
+use Rattle.posix_model.specs.declared.process.Process.{Process}
+use Rattle.posix_model.proofs.ChangeLaws.{changed_by}
+use Rattle.posix_model.proofs.machine.Machine.change.Goals as goal
+
+pub returns-clause-state : goal.returns-clause-state
+returns-clause-state c =
+    let f : Record → Record = change_of c.args.change in
+    changed_by (state_of c.args.self.now) c.args.number f (record_of c.take-process.result.value) (record_of
+    c.change.new.self) _ _
+    c.take-process.ensures.process c.take-process.ensures.rest
+    (c.change.ensures ∙ ap (λ (p : Process). f (record_of p)) c.deref_mut.ensures.value)
+    c.put.ensures

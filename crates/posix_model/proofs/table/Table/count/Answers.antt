@@ -1,0 +1,11 @@
+use Rattle.std.proofs.Common.{◌∙◌, ap, arith}
+use Rattle.posix_model.specs.Scanned.{count_entries}
+use Rattle.posix_model.specs.Table.{record_in}
+use Rattle.posix_model.proofs.NumberedLaws.{entries-map_from}
+use Rattle.posix_model.proofs.table.Table.count.Goals as goal
+
+pub loop-i-init : goal.loop-i-init
+loop-i-init g c =
+    let told = ap (count_entries (g.T.Test.is_passed c.args.test.now)) (entries-map_from record_in 2
+    c.args.self.now.seats.items) in
+    (told ∙ omega arith, omega arith)

@@ -1,0 +1,30 @@
+//! The POSIX machine: which events are steps in a state, and the state after them.
+//!
+//! `Machine` has the parts of a state. So far there is a function for each event but `run`, `fork`, `forkfail`, `exec`,
+//! `execfail`, `return`, `deliver`, `die` and `line`.
+#![tactic(auto)]
+
+pub mod asked;
+pub mod change;
+pub mod changed;
+pub mod checks;
+pub mod console;
+pub mod deaths;
+pub mod finds;
+pub mod groups;
+pub mod groups_seen;
+pub mod kills;
+pub mod machine;
+pub mod marks;
+pub mod numbers;
+pub mod operands;
+pub mod own;
+pub mod process;
+pub mod results;
+pub mod scans;
+pub mod sending;
+pub mod signal_acts;
+pub mod signal_calls;
+pub mod table;
+pub mod terminal;
+pub mod waits;
