@@ -1,5 +1,5 @@
 -- The calls that change the object that a handle names: each is the step that it is to be, and the tables stay sound.
-use Rattle.std.proofs.Common.{◌≡◌, ℕ, ◌≤◌, true, Some, subst, refl, sym, arith}
+use Rattle.std.proofs.Common.{◌≡◌, ℕ, ◌≤◌, true, Some, subst, sym, arith}
 use Rattle.std.specs.Option.{IsSomeAnd}
 use Rattle.w32_base.specs.declared.call.Call.{Call}
 use Rattle.w32_base.specs.declared.call.Call.TheVariants as call
@@ -35,8 +35,8 @@ use Rattle.w32_machine.proofs.KindSteps.{add-keeps, set-keeps, reset-keeps, rele
 module _ (m : Inside) (sound : IsSound m) (now : Running) (shows : view_of m ≡ now) (by : Caller)
     (caller : IsCaller now.win32 by) where
   -- what a call leaves is well formed, by what it changes
-  pub formed-effect : (t : ℕ) → t ≤ 2 → (c : Call) (new : Win32State) → CallEffect m.script now.win32 by.process t c new
-      → IsWellFormed m.script new
+  pub formed-effect : (t : ℕ) → t ≤ 2 → (c : Call) (new : Win32State)
+      → CallEffect m.script now.win32 by.process t c new → IsWellFormed m.script new
   formed-effect t few c new effect =
       wellformed-effect m.script now.win32 by.process t c new
       (subst (λ (r : Running). IsWellFormed m.script r.win32) shows sound.state)
@@ -54,7 +54,8 @@ module _ (m : Inside) (sound : IsSound m) (now : Running) (shows : view_of m ≡
         (subst (λ (r : Running). IsKind m.processes.slots r.win32.processes m.section (object_number o) x) shows
         (kind_is m sound now shows by caller h o named x was))
 
-    pub exchange-done : (i old next : ℕ) → Exchanges i old next x r y → ExchangeStep now.win32 by.process h i old next r (view_of new).win32
+    pub exchange-done : (i old next : ℕ) → Exchanges i old next x r y
+        → ExchangeStep now.win32 by.process h i old next r (view_of new).win32
     exchange-done i old next did =
         exchange-step now.win32 (view_of new).win32 by.process h (object_number o)
         (number_is m sound now shows by caller h o named) y r (after m sound now shows by caller h o named x was y)
@@ -65,10 +66,12 @@ module _ (m : Inside) (sound : IsSound m) (now : Running) (shows : view_of m ≡
     exchange-sound i old next did =
         sound_after m sound now shows by caller h o named x was y
         (formed-effect 0 (omega arith) (call.CompareExchange h i old next) (view_of new).win32
-        (exchange_effect m.script now.win32 by.process 0 h i old next r (view_of new).win32 (exchange-done i old next did)))
+        (exchange_effect m.script now.win32 by.process 0 h i old next r (view_of new).win32
+        (exchange-done i old next did)))
         (exchange-keeps i old next x r y did)
 
-    pub add-done : (i more : ℕ) → Increases i more x r y → AddStep now.win32 by.process h i more r (view_of new).win32
+    pub add-done : (i more : ℕ) → Increases i more x r y
+        → AddStep now.win32 by.process h i more r (view_of new).win32
     add-done i more did =
         add-step now.win32 (view_of new).win32 by.process h (object_number o)
         (number_is m sound now shows by caller h o named) y r (after m sound now shows by caller h o named x was y)
@@ -110,7 +113,8 @@ module _ (m : Inside) (sound : IsSound m) (now : Running) (shows : view_of m ≡
         (reset_effect m.script now.win32 by.process 0 h r (view_of new).win32 (reset-done did)))
         (reset-keeps x r y did)
 
-    pub release-done : Releases by.process by.thread x r y → ReleaseStep now.win32 by.process by.thread h r (view_of new).win32
+    pub release-done : Releases by.process by.thread x r y
+        → ReleaseStep now.win32 by.process by.thread h r (view_of new).win32
     release-done did =
         release-step now.win32 (view_of new).win32 by.process h (object_number o)
         (number_is m sound now shows by caller h o named) y r (after m sound now shows by caller h o named x was y)

@@ -1,29 +1,24 @@
 -- What a handle of a caller names, and what another object in its place leaves.
-use Rattle.std.proofs.Common.{◌≡◌, ◌≢◌, ◌∙◌, inl, inr, ℕ, ◌+◌, ◌*◌, ◌/◌, ◌≤◌, true, List, length, Option, Some, None}
+use Rattle.std.proofs.Common.{◌≡◌, ◌∙◌, inl, inr, ℕ, ◌+◌, ◌*◌, ◌/◌, ◌≤◌, List, length, Option, Some, None}
 use Rattle.std.proofs.Common.{IsSome, [], ◌∷◌, slice_index_or, refl, sym, ap, subst, arith}
 use Rattle.std.specs.Option.{IsSomeAnd}
 use Rattle.std.proofs.lemmas.Bool.{cases_eq}
 use Rattle.win32_spec.specs.Handles.{handle_of}
-use Rattle.win32_spec.specs.State.{Object, Pipe, NumberedObject, Process, Win32State}
+use Rattle.win32_spec.specs.State.{Object, NumberedObject, Process, Win32State}
 use Rattle.win32_spec.specs.Lookup.{object_number, object_of, change_object, with_object}
-use Rattle.win32_spec.specs.Pipes.{all_holders_of, pipe_state}
 use Rattle.win32_spec.specs.Named.{named_by, number_or_zero, object_number_by, object_at, object_by}
 use Rattle.win32_spec.specs.WellFormed.{IsListed, IsWellFormed}
 use Rattle.win32_spec.specs.FormedLaws.{from_listed}
-use Rattle.win32_spec.specs.LookupLaws.{same_some}
 use Rattle.w32_handles.specs.Table.{Kept, Table, instead}
 use Rattle.w32_handles.specs.Table as table
 use Rattle.w32_handles.specs.Shown.{object_shown, objects_of}
 use Rattle.w32_handles.specs.ShownLaws.{object_of-named}
 use Rattle.w32_handles.specs.PlaceLaws.{Changes-with_object, objects-change, objects-stay}
-use Rattle.w32_handles.specs.Counted.{count_objects}
-use Rattle.w32_handles.specs.BoundLaws.{length-objects}
 use Rattle.w32_process.specs.Places.{Place}
-use Rattle.w32_process.specs.Table.{place_at, number_at}
+use Rattle.w32_process.specs.Table.{number_at}
 use Rattle.w32_machine.specs.Contract.{IsCaller}
 use Rattle.w32_machine.specs.declared.caller.Caller.{Caller}
 use Rattle.w32_machine.specs.declared.kind.Kind.{Kind}
-use Rattle.w32_machine.specs.declared.kind.Kind.TheVariants as kind
 use Rattle.w32_machine.specs.declared.machine.Machine.TheInside.{Inside}
 use Rattle.w32_machine.specs.Running.{Running}
 use Rattle.w32_machine.specs.View.{shown, view_of}
@@ -66,7 +61,8 @@ module _ (m : Inside) (sound : IsSound m) (now : Running) (shows : view_of m ≡
       by_answer (Some kept) e = (kept, e)
       by_answer None e =
           let f = from_listed (view_of m).win32.objects o listed in
-          absurd (let g : Some f.0 ≡ None = sym f.1 ∙ object_of-named shown m.objects o ∙ ap (object_shown shown) e in cc)
+          absurd (let g : Some f.0 ≡ None = sym f.1 ∙ object_of-named shown m.objects o ∙ ap (object_shown shown) e
+          in cc)
 
   pub some_at : IsSome (table.object_at m.objects o)
   some_at = rw (stands.1) refl

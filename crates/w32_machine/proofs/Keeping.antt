@@ -1,11 +1,13 @@
 -- The tables stay sound where processes change but not their numbers and handles.
-use Rattle.std.proofs.Common.{◌≡◌, ◌≢◌, ◌∙◌, inl, inr, ℕ, ◌+◌, ◌*◌, ◌<◌, ◌≤◌, Bool, true, false, List, length, Option, Some, None}
-use Rattle.std.proofs.Common.{IsSome, IfSome, nat_lt, if◌then◌else◌, slice_get, slice_index_or, slice_set, refl, sym, ap, subst, arith}
+use Rattle.std.proofs.Common.{◌≡◌, ◌≢◌, ◌∙◌, inl, inr, ℕ, ◌+◌, ◌*◌, ◌<◌, ◌≤◌, List, length, Option}
+use Rattle.std.proofs.Common.{Some, None}
+use Rattle.std.proofs.Common.{IsSome, IfSome, slice_get, slice_index_or, slice_set, refl, sym}
+use Rattle.std.proofs.Common.{ap, subst, arith}
 use Rattle.std.proofs.lemmas.Bool.{cases_lt}
 use Rattle.std.proofs.lemmas.List.{length-set, get_or-set_same, get_or-set_other, get_or_read}
 use Rattle.w32_base.specs.declared.call.Call.{Call}
-use Rattle.win32_spec.specs.State.{Thread, PlacedModule, Process, Win32State}
-use Rattle.win32_spec.specs.Lookup.{process_of, process_in, is_live, thread_in, thread_of, thread_at, with_posted}
+use Rattle.win32_spec.specs.State.{Thread, Process}
+use Rattle.win32_spec.specs.Lookup.{process_in, thread_in, thread_of, thread_at, with_posted}
 use Rattle.win32_spec.specs.Lookup.{object_number, change_process, change_thread, number_of}
 use Rattle.std.specs.Vec.{with_item}
 use Rattle.std.specs.VecDeque.{deque_capacity}
@@ -14,14 +16,13 @@ use Rattle.w32_machine.specs.Contract.{key_lines}
 use Rattle.win32_spec.specs.LookupLaws.{before, not_before, same_some}
 use Rattle.win32_spec.specs.Making.{opening_call}
 use Rattle.win32_spec.specs.Pipes.{all_holders_of}
-use Rattle.win32_spec.specs.Run.{IsThread}
 use Rattle.win32_spec.specs.StepLaws.{acting, posted_tame}
 use Rattle.win32_spec.specs.TameLaws.{wellformed-tame}
 use Rattle.win32_spec.specs.WellFormed.{IsWellFormed}
 use Rattle.w32_handles.specs.CountLaws.{all_holders-keep}
-use Rattle.w32_handles.specs.Table.{Kept, object_at}
+use Rattle.w32_handles.specs.Table.{object_at}
 use Rattle.w32_process.specs.Places.{Place}
-use Rattle.w32_process.specs.Table.{Table, place_at, number_at}
+use Rattle.w32_process.specs.Table.{place_at, number_at}
 use Rattle.w32_process.specs.Sound as processes
 use Rattle.w32_process.specs.SoundLaws.{within_slots}
 use Rattle.w32_process.specs.ChangeLaws.{processes-with_posted}
@@ -31,7 +32,7 @@ use Rattle.w32_machine.specs.declared.kind.Kind.TheVariants as kind
 use Rattle.w32_machine.specs.declared.machine.Machine.TheInside.{Inside}
 use Rattle.w32_machine.specs.Running.{Running}
 use Rattle.w32_machine.specs.View.{shown, posted_in, placed_in, view_of}
-use Rattle.w32_machine.specs.Sound.{IsKind, IsHeld, IsSound}
+use Rattle.w32_machine.specs.Sound.{IsKind, IsSound}
 use Rattle.w32_machine.proofs.Slots.{its_process, found_in, live, number_in-at}
 
 -- what the code keeps of an object, over processes with the same numbers and holders

@@ -1,14 +1,14 @@
 -- What a call does to the object that a handle names is what it does to the state.
-use Rattle.std.proofs.Common.{◌≡◌, ◌∙◌, ℕ, Bool, true, false, if◌then◌else◌, Option, Some, None, MatchOption, MatchBool}
-use Rattle.std.proofs.Common.{refl, sym, ap, subst}
+use Rattle.std.proofs.Common.{◌≡◌, ◌∙◌, ℕ, Bool, true, false, if◌then◌else◌, Option, Some, MatchOption, MatchBool}
+use Rattle.std.proofs.Common.{sym, ap, subst}
 use Rattle.w32_base.specs.declared.call.Reply.{Reply}
 use Rattle.w32_base.specs.declared.call.Reply.TheVariants as reply
 use Rattle.win32_spec.specs.Objects.{event_set, event_reset, Ownership, Free, is_owner}
-use Rattle.win32_spec.specs.Objects.{exchanged, added, load_reply}
-use Rattle.win32_spec.specs.State.{Object, Section, Event, Mutex, Pipe, Win32State}
+use Rattle.win32_spec.specs.Objects.{exchanged, added}
+use Rattle.win32_spec.specs.State.{Object, Section, Event, Mutex, Win32State}
 use Rattle.win32_spec.specs.Lookup.{with_object}
 use Rattle.win32_spec.specs.Named.{object_number_by, object_by, section_named, event_named, mutex_named, Gives}
-use Rattle.win32_spec.specs.WordCalls.{word_reply, after_exchange, after_add, LoadStep, ExchangeStep, AddStep}
+use Rattle.win32_spec.specs.WordCalls.{word_reply, after_exchange, after_add, ExchangeStep, AddStep}
 use Rattle.win32_spec.specs.ObjectCalls.{SetStep, ResetStep, ReleaseStep}
 use Rattle.w32_machine.specs.declared.kind.Kind.{Kind}
 use Rattle.w32_machine.specs.declared.kind.Kind.TheVariants as kind
@@ -121,7 +121,8 @@ module _ (s new : Win32State) (w h n : ℕ) (number : object_number_by s w h ≡
 
 -- What the code keeps of an object stays in each of these calls.
 pub exchange-keeps : (i old next : ℕ) (x : Kind) (r : Reply) (y : Kind) → Exchanges i old next x r y → KeepsKind x y
-exchange-keeps i old next (kind.Section words) r y d = λ slots ps section o k. subst (IsKind slots ps section o) (sym d.1) k
+exchange-keeps i old next (kind.Section words) r y d = λ slots ps section o k. subst (IsKind slots ps section o) (sym
+    d.1) k
 exchange-keeps i old next (kind.Event e) r y d = same-keeps (kind.Event e) y d.1
 exchange-keeps i old next (kind.Mutex owner) r y d = same-keeps (kind.Mutex owner) y d.1
 exchange-keeps i old next (kind.Pipe p) r y d = same-keeps (kind.Pipe p) y d.1

@@ -1,15 +1,16 @@
 -- The process that a handle names.
-use Rattle.std.proofs.Common.{◌≡◌, ◌⊎◌, ◌∙◌, inl, inr, ℕ, Option, Some, None, IsSome, IfSome, MatchOption, refl, sym, ap, subst}
+use Rattle.std.proofs.Common.{◌≡◌, ◌⊎◌, ◌∙◌, inl, inr, ℕ, Option, Some, None, IsSome, IfSome, MatchOption, refl, sym}
+use Rattle.std.proofs.Common.{ap, subst}
 use Rattle.std.specs.Option.{IsSomeAnd}
 use Rattle.w32_base.specs.declared.call.Reply.TheVariants as reply
-use Rattle.win32_spec.specs.State.{ProcessObject, Process, Win32State}
+use Rattle.win32_spec.specs.State.{ProcessObject}
 use Rattle.win32_spec.specs.Lookup.{process_of, number_in, object_number, object_of}
-use Rattle.win32_spec.specs.Named.{named_by, object_number_by, object_by, process_named, Gives}
+use Rattle.win32_spec.specs.Named.{named_by, object_number_by, object_by, process_named}
 use Rattle.win32_spec.specs.CallEffects.{object_by-found, is_process}
 use Rattle.win32_spec.specs.ProcessCalls.{code_reply, ExitCodeStep}
 use Rattle.w32_handles.specs.Table.{object_at}
-use Rattle.w32_process.specs.Table.{number_at, place_at, code_of, IsLive}
-use Rattle.w32_process.specs.TableLaws.{kept_at, kept_at-some}
+use Rattle.w32_process.specs.Table.{number_at, code_of, IsLive}
+use Rattle.w32_process.specs.TableLaws.{kept_at-some}
 use Rattle.w32_process.specs.FoundLaws.{slot_of, process_of-live, process_of-ended}
 use Rattle.w32_process.specs.ClosedLaws.{kept-known}
 use Rattle.w32_machine.specs.Contract.{IsCaller, LivesOnlyIn}

@@ -1,12 +1,14 @@
 -- Whether a thread is ready.
-use Rattle.std.proofs.Common.{◌≡◌, ◌≢◌, ◌∙◌, ◌⊎◌, inl, inr, not, ℕ, zero, suc, ◌+◌, ◌*◌, ◌/◌, ◌%◌, ◌<◌, ◌≤◌, Bool, true, false, ◌&&◌, ◌||◌, nat_eq, List, []}
-use Rattle.std.proofs.Common.{◌∷◌, length, drop, slice_get, Option, Some, None, IsSome, IfSome, refl, sym, ap, subst, arith}
+use Rattle.std.proofs.Common.{◌≡◌, ◌≢◌, ◌∙◌, ◌⊎◌, inl, inr, not, ℕ, zero, suc, ◌+◌, ◌*◌, ◌/◌, ◌%◌, ◌<◌, ◌≤◌, Bool, true}
+use Rattle.std.proofs.Common.{false, ◌&&◌, ◌||◌, nat_eq, List, []}
+use Rattle.std.proofs.Common.{◌∷◌, length, drop, slice_get, Option, Some, None, IsSome, IfSome, refl, sym, ap, subst}
+use Rattle.std.proofs.Common.{arith}
 use Rattle.std.proofs.lemmas.Bool.{cases_eq, cases_lt}
 use Rattle.std.specs.Option.{option_eq}
 use Rattle.w32_base.specs.declared.call.Call.{Call}
 use Rattle.win32_spec.specs.Handles.{Handle, handle_of}
 use Rattle.win32_spec.specs.State.{Thread, Process, Win32State}
-use Rattle.win32_spec.specs.Lookup.{process_of, process_in, thread_in, thread_of, thread_at, number_in, number_of}
+use Rattle.win32_spec.specs.Lookup.{process_in, thread_in, thread_of, thread_at, number_in, number_of}
 use Rattle.win32_spec.specs.LookupLaws.{differs}
 use Rattle.win32_spec.specs.Named.{handles_by}
 use Rattle.win32_spec.specs.Ready.{is_handle_signalled, is_some_signalled, may_go, is_thread_ready, is_process_ready}
@@ -16,7 +18,7 @@ use Rattle.w32_process.specs.SoundLaws.{within_slots}
 use Rattle.w32_process.specs.ThreadLaws.{thread_shown, thread_in-threads}
 use Rattle.w32_machine.specs.declared.machine.Machine.TheInside.{Inside}
 use Rattle.w32_machine.specs.Running.{Running}
-use Rattle.w32_machine.specs.View.{posted_in, placed_in, view_of}
+use Rattle.w32_machine.specs.View.{posted_in, view_of}
 use Rattle.w32_machine.specs.Sound.{IsSound}
 use Rattle.w32_machine.proofs.Slots.{its_process, found_in, handles_at, caller-at}
 use Rattle.w32_machine.specs.Contract.{OnlyFew}
@@ -100,7 +102,8 @@ module _ (m : Inside) (sound : IsSound m) (now : Running) (shows : view_of m ≡
       by_count None d = refl
       by_count (Some n) d =
           let e = differs n 0 (λ f. d (ap (λ i. Some i) f)) in
-          ap (λ b. b && may_go now.win32 w t (place_at m.processes.slots slot).handles (posted_in m.posted.items slot t)) e
+          ap (λ b. b && may_go now.win32 w t (place_at m.processes.slots slot).handles (posted_in m.posted.items slot
+          t)) e
 
   pub running-thread : count_at m.processes.slots slot t ≡ Some 0 → IsSome (thread_at now.win32 slot t)
   running-thread e = rw (thread-at ∙ ap (thread_shown (posted_in m.posted.items slot) t) e) refl

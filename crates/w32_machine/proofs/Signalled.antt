@@ -1,16 +1,14 @@
 -- Whether what a handle names is signalled.
-use Rattle.std.proofs.Common.{◌≡◌, ◌∙◌, inl, inr, ℕ, Bool, true, false, ◌&&◌, not, if◌then◌else◌, List, [], ◌∷◌, ◌==◌}
-use Rattle.std.proofs.Common.{length, Option, Some, None, IsTrue, refl, sym, ap, subst, arith}
+use Rattle.std.proofs.Common.{◌≡◌, ◌∙◌, inl, inr, ℕ, Bool, true, false, ◌&&◌, not, List, [], ◌∷◌, ◌==◌}
+use Rattle.std.proofs.Common.{length, Some, IsTrue, refl, sym, ap, subst, arith}
 use Rattle.std.specs.Option.{IsSomeAnd}
 use Rattle.win32_spec.specs.Objects.{PipeState, pipe_is_signalled, is_empty}
-use Rattle.win32_spec.specs.State.{Object, Win32State}
-use Rattle.win32_spec.specs.Lookup.{process_of, is_live, number_in, object_number, object_of}
+use Rattle.win32_spec.specs.Lookup.{process_of, is_live, number_in, object_number}
 use Rattle.win32_spec.specs.Named.{named_by, object_at}
 use Rattle.win32_spec.specs.LookupLaws.{differs}
 use Rattle.win32_spec.specs.Pipes.{pipe_state}
 use Rattle.win32_spec.specs.Ready.{is_first_end, is_signalled, is_handle_signalled}
 use Rattle.w32_handles.specs.Table as table
-use Rattle.w32_process.specs.Table.{number_at}
 use Rattle.w32_process.specs.FoundLaws.{slot_of, is_live-at, is_live-aside}
 use Rattle.w32_machine.specs.Contract.{IsCaller, LivesOnlyIn}
 use Rattle.w32_machine.specs.declared.caller.Caller.{Caller}

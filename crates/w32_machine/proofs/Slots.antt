@@ -1,19 +1,17 @@
 -- What the processes of a machine are, slot by slot.
-use Rattle.std.proofs.Common.{◌≡◌, ◌∙◌, ℕ, Bool, true, false, List, length, Option, Some, None, IsSome, refl, sym, ap, subst}
-use Rattle.std.proofs.Common.{arith}
-use Rattle.w32_base.specs.declared.call.Call.{Call}
-use Rattle.w32_base.specs.declared.own.Own.{Own}
-use Rattle.win32_spec.specs.Handles.{Handle, handle_of, AreRisingFrom}
-use Rattle.win32_spec.specs.State.{Thread, PlacedModule, Process, Win32State}
-use Rattle.win32_spec.specs.Lookup.{process_of, process_in, is_live, thread_in, thread_of, thread_at, number_of, number_in}
+use Rattle.std.proofs.Common.{◌≡◌, ◌∙◌, ℕ, true, Option, Some, None, IsSome, refl, sym, ap}
+use Rattle.std.proofs.Common.{subst}
+use Rattle.win32_spec.specs.Handles.{AreRisingFrom}
+use Rattle.win32_spec.specs.State.{Process}
+use Rattle.win32_spec.specs.Lookup.{process_of, process_in, is_live, number_of}
+use Rattle.win32_spec.specs.Lookup.{number_in}
 use Rattle.win32_spec.specs.Lookup.{memory_of, memory_by}
 use Rattle.win32_spec.specs.Named.{handles_of, handles_by}
 use Rattle.win32_spec.specs.MemoryCalls.{program_no_of, program_no_by}
 use Rattle.win32_spec.specs.WellFormed.{IsLiveProcess}
 use Rattle.win32_spec.specs.FormedLaws.{of_live}
-use Rattle.w32_process.specs.Places.{Place, count_of, count_in}
-use Rattle.w32_process.specs.Table.{Table, place_at, number_at, count_at}
-use Rattle.w32_process.specs.Processes.{live_process, processes_of}
+use Rattle.w32_process.specs.Table.{place_at, number_at}
+use Rattle.w32_process.specs.Processes.{live_process}
 use Rattle.w32_process.specs.FoundLaws.{shown, process_in-at, process_in-live, process_of-live, is_live-at}
 use Rattle.w32_machine.specs.Contract.{own_in}
 use Rattle.w32_machine.specs.declared.machine.Machine.TheInside.{Inside}
@@ -38,7 +36,8 @@ module _ (m : Inside) (sound : IsSound m) where
   pub own_in-at : (slot w : ℕ) → number_at m.processes.slots slot ≡ Some w
       → own_in (process_in (view_of m).win32.processes slot) ≡ Some (place_at m.processes.slots slot).own
   own_in-at slot w at =
-      ap own_in (process_in-live (posted_in m.posted.items) (placed_in m.placed.items) m.processes sound.table slot w at)
+      ap own_in (process_in-live (posted_in m.posted.items) (placed_in m.placed.items) m.processes sound.table slot w
+      at)
 
   pub own_in-none : (slot : ℕ) → number_at m.processes.slots slot ≡ None
       → own_in (process_in (view_of m).win32.processes slot) ≡ None

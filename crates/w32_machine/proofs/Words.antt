@@ -1,5 +1,6 @@
 -- The section is where the machine keeps its number.
-use Rattle.std.proofs.Common.{◌≡◌, ◌≢◌, ◌∙◌, ℕ, ◌+◌, ◌*◌, ◌/◌, List, [], ◌∷◌, Option, Some, None, IsSome, IfSome, Result}
+use Rattle.std.proofs.Common.{◌≡◌, ◌∙◌, ℕ, ◌+◌, List, [], ◌∷◌, Option, Some, None, IsSome, IfSome}
+use Rattle.std.proofs.Common.{Result}
 use Rattle.std.proofs.Common.{MatchResult, refl, sym, ap, subst, arith}
 use Rattle.std.specs.Option.{IsSomeAnd}
 use Rattle.w32_base.specs.declared.call.Reply.TheVariants as reply
@@ -10,7 +11,7 @@ use Rattle.win32_spec.specs.LookupLaws.{same, differs, same_some}
 use Rattle.win32_spec.specs.ObjectLaws.{rising_objects-bound}
 use Rattle.win32_spec.specs.WellFormed.{AreRisingObjects}
 use Rattle.w32_handles.specs.Table.{Kept, object_at}
-use Rattle.w32_handles.specs.Shown.{object_shown, objects_of}
+use Rattle.w32_handles.specs.Shown.{object_shown}
 use Rattle.w32_handles.specs.ShownLaws.{object_of-named, rising-objects}
 use Rattle.w32_section.specs.declared.BadIndex.{BadIndex}
 use Rattle.w32_machine.specs.declared.kind.Kind.{Kind}
@@ -79,7 +80,8 @@ module _ (m : Inside) (sound : IsSound m) (now : Running) (shows : view_of m ≡
           let is = shows-section kept.object words h in
           let held = sound.held o kept f in
           let place : object_number o ≡ m.section =
-          subst (λ k. IsKind m.processes.slots (view_of m).win32.processes m.section (object_number o) k) is held.kind in
+          subst (λ k. IsKind m.processes.slots (view_of m).win32.processes m.section (object_number o) k) is
+          held.kind in
           (kept, subst (λ n. object_at m.objects n ≡ Some kept) (sym even ∙ place) f, is)
 
   pub section-there : IsSome (section_words now.win32.objects) → IsSome (object_at m.objects m.section)

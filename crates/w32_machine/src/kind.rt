@@ -31,7 +31,8 @@ pub enum Kind {
 }
 
 impl Kind {
-    ghost use Rattle.w32_machine.specs.Kinds.{Loads, Exchanges, Increases, Sets, Resets, Releases, Puts, Gets, MayBeTaken};
+    ghost use Rattle.w32_machine.specs.Kinds.{Loads, Exchanges, Increases, Sets, Resets, Releases, Puts, Gets};
+    ghost use Rattle.w32_machine.specs.Kinds.{MayBeTaken};
     ghost use Rattle.w32_machine.specs.Kinds.{Takes, IsWord, IsProcess, ends_on, with_ends, kind_left_by};
 
     /// Reads a word of a section.

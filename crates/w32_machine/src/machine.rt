@@ -1,6 +1,7 @@
 //! The machine: its processes, its objects, the posted calls, the placed modules and the console's keys.
 
-ghost use Rattle.std.specs.Prelude.{◌≡◌, ◌+◌, ◌*◌, ◌<◌, ◌↔◌, length, IsTrue, IfSome, IsSome, MatchOption, MatchResult, option_copied};
+ghost use Rattle.std.specs.Prelude.{◌≡◌, ◌+◌, ◌*◌, ◌<◌, ◌≤◌, ◌↔◌, length, true, false, IsTrue, IfOk, IfSome, IsSome};
+ghost use Rattle.std.specs.Prelude.{MatchOption, MatchResult, option_copied};
 ghost use Rattle.w32_base.specs.declared.call.Reply.TheVariants as reply;
 ghost use Rattle.win32_spec.specs.Objects.{load_reply};
 ghost use Rattle.win32_spec.specs.Lookup.{process_in, thread_at, number_in, section_words};

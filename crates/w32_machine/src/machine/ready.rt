@@ -35,7 +35,8 @@ impl Machine {
     // Whether a call may be carried out: each but a wait may.
     fn may_go(&self, by: &Caller, call: &Call) -> bool
         requires { IsCaller self.now.win32 by.now }
-        ensures { result ≡ may_go self.now.win32 by.now.process by.now.thread (handles_by self.now.win32 by.now.process) call.now }
+        ensures { result ≡ may_go self.now.win32 by.now.process by.now.thread (handles_by self.now.win32
+            by.now.process) call.now }
     {
         match call {
             Call::WaitAny(list) => self.is_some_signalled(by, list),
@@ -46,7 +47,8 @@ impl Machine {
     // Whether one of the handles of a wait is signalled.
     fn is_some_signalled(&self, by: &Caller, list: &HandleList) -> bool
         requires { IsCaller self.now.win32 by.now }
-        ensures { result ≡ is_some_signalled self.now.win32 by.now.process by.now.thread (handles_by self.now.win32 by.now.process)
+        ensures { result ≡ is_some_signalled self.now.win32 by.now.process by.now.thread (handles_by self.now.win32
+            by.now.process)
             list.now }
     {
         for place in 0..list.len() {

@@ -1,5 +1,5 @@
 use Rattle.std.proofs.Common.{◌∙◌, sym, subst}
-use Rattle.w32_machine.specs.Kinds.{Puts, Gets}
+use Rattle.w32_machine.specs.Kinds.{Gets}
 use Rattle.w32_machine.proofs.Changing.{some_at}
 use Rattle.w32_machine.proofs.Called.{get-done, get-sound}
 use Rattle.w32_machine.proofs.machine.Machine.get.Goals as goal
@@ -11,7 +11,8 @@ get_mut-requires c =
 
 pub invariant_of-self : goal.invariant_of-self
 invariant_of-self c =
-    get-sound c.self.inside c.self.invariant c.args.self.now c.self.view_is c.args.by.now c.requires c.args.h c.in-Some.o
+    get-sound c.self.inside c.self.invariant c.args.self.now c.self.view_is c.args.by.now c.requires c.args.h
+    c.in-Some.o
     (sym c.in-Some.is ∙ c.named.ensures) c.get_mut.result.now c.get_mut.ensures.value c.get.new.self c.get.result
     (subst (λ e. Gets e c.get_mut.result.now c.get.result c.get.new.self) c.end_of.ensures c.get.ensures)
 

@@ -1,5 +1,4 @@
 use Rattle.std.proofs.Common.{◌+◌, ◌∙◌, nat_lt, length, sym, ap, arith}
-use Rattle.win32_spec.specs.Handles.{Handle}
 use Rattle.win32_spec.specs.HolderLaws.{length-rising}
 use Rattle.win32_spec.specs.Named.{is_full, handles_by}
 use Rattle.w32_machine.proofs.Slots.{caller-at, is_there, handles_at, rising_at}

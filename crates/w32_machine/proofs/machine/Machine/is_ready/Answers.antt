@@ -1,5 +1,4 @@
-use Rattle.std.proofs.Common.{◌≡◌, ◌∙◌, Some, true, false, nat_eq, not, sym, ap, refl, rules, arith}
-use Rattle.std.specs.Option.{option_eq}
+use Rattle.std.proofs.Common.{◌∙◌, sym}
 use Rattle.w32_machine.proofs.Readiness.{suspended-ready, running-thread, running-few, running-ready, not-zero, is-zero}
 use Rattle.w32_machine.proofs.Readiness.{only-few, empty-ready, here, nowhere}
 use Rattle.w32_machine.proofs.machine.Machine.is_ready.Goals as goal
@@ -7,13 +6,15 @@ use Rattle.w32_machine.proofs.machine.Machine.is_ready.Goals as goal
 pub returns-then-ne-clause-value : goal.returns-then-ne-clause-value
 returns-then-ne-clause-value c =
     suspended-ready c.self.inside c.self.invariant c.args.self.now c.self.view_is c.args.slot c.in-Some.process
-    c.args.thread (here c.self.inside c.self.invariant c.args.self.now c.self.view_is c.args.slot _ c.in_slot.result c.in_slot.ensures.value c.in-Some.is)
+    c.args.thread (here c.self.inside c.self.invariant c.args.self.now c.self.view_is c.args.slot _ c.in_slot.result
+    c.in_slot.ensures.value c.in-Some.is)
     (not-zero c.count.result _ c.count.ensures (sym c.ne.ensures ∙ c.if-ne.true))
 
 pub posted-call-requires : goal.posted-call-requires
 posted-call-requires c =
     running-thread c.self.inside c.self.invariant c.args.self.now c.self.view_is c.args.slot c.in-Some.process
-    c.args.thread (here c.self.inside c.self.invariant c.args.self.now c.self.view_is c.args.slot _ c.in_slot.result c.in_slot.ensures.value c.in-Some.is)
+    c.args.thread (here c.self.inside c.self.invariant c.args.self.now c.self.view_is c.args.slot _ c.in_slot.result
+    c.in_slot.ensures.value c.in-Some.is)
     (is-zero c.count.result _ c.count.ensures (sym c.ne.ensures ∙ c.if-ne.false))
 
 pub may_go-requires : goal.may_go-requires
@@ -22,14 +23,16 @@ may_go-requires c = record {
       c.in_slot.ensures.value c.in-Some.is;
   thread =
       running-few c.self.inside c.self.invariant c.args.self.now c.self.view_is c.args.slot c.in-Some.process
-      c.args.thread (here c.self.inside c.self.invariant c.args.self.now c.self.view_is c.args.slot _ c.in_slot.result c.in_slot.ensures.value c.in-Some.is)
+      c.args.thread (here c.self.inside c.self.invariant c.args.self.now c.self.view_is c.args.slot _
+      c.in_slot.result c.in_slot.ensures.value c.in-Some.is)
       (is-zero c.count.result _ c.count.ensures (sym c.ne.ensures ∙ c.if-ne.false));
 }
 
 pub returns-clause-value : goal.returns-clause-value
 returns-clause-value c =
     running-ready c.self.inside c.self.invariant c.args.self.now c.self.view_is c.args.slot c.in-Some.process
-    c.args.thread (here c.self.inside c.self.invariant c.args.self.now c.self.view_is c.args.slot _ c.in_slot.result c.in_slot.ensures.value c.in-Some.is)
+    c.args.thread (here c.self.inside c.self.invariant c.args.self.now c.self.view_is c.args.slot _ c.in_slot.result
+    c.in_slot.ensures.value c.in-Some.is)
     (is-zero c.count.result _ c.count.ensures (sym c.ne.ensures ∙ c.if-ne.false)) c.posted-call.result
     c.posted-call.ensures c.may_go.result c.may_go.ensures
 

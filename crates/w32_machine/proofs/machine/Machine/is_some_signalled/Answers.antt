@@ -11,18 +11,22 @@ loop-place-init c = refl
 pub returns-then-is_signalled : goal.returns-then-is_signalled
 returns-then-is_signalled c =
     sym (c.loop-place.invariant ∙ some-next c.args.self.now.win32 c.args.by.now.process c.args.by.now.thread
-    (handles_by c.args.self.now.win32 c.args.by.now.process) c.args.list.now c.loop-place.place c.in-Some.h (sym c.get.ensures ∙ c.in-Some.is)
+    (handles_by c.args.self.now.win32 c.args.by.now.process) c.args.list.now c.loop-place.place c.in-Some.h (sym
+    c.get.ensures ∙ c.in-Some.is)
     ∙ ap (λ b. b || is_some_signalled c.args.self.now.win32 c.args.by.now.process c.args.by.now.thread
-    (handles_by c.args.self.now.win32 c.args.by.now.process) (drop (c.loop-place.place + 1) c.args.list.now)) (sym c.is_signalled.ensures ∙ c.if-is_signalled.true))
+    (handles_by c.args.self.now.win32 c.args.by.now.process) (drop (c.loop-place.place + 1) c.args.list.now)) (sym
+    c.is_signalled.ensures ∙ c.if-is_signalled.true))
 
 pub loop-place-preserved : goal.loop-place-preserved
 loop-place-preserved c =
     elim c.match-get.branch [
       | in-Some+else-is_signalled w ↦
           c.loop-place.invariant ∙ some-next c.args.self.now.win32 c.args.by.now.process c.args.by.now.thread
-          (handles_by c.args.self.now.win32 c.args.by.now.process) c.args.list.now c.loop-place.place w.in-Some.h (sym c.get.ensures ∙ w.in-Some.is)
+          (handles_by c.args.self.now.win32 c.args.by.now.process) c.args.list.now c.loop-place.place w.in-Some.h (sym
+          c.get.ensures ∙ w.in-Some.is)
           ∙ ap (λ b. b || is_some_signalled c.args.self.now.win32 c.args.by.now.process c.args.by.now.thread
-          (handles_by c.args.self.now.win32 c.args.by.now.process) (drop (c.loop-place.place + 1) c.args.list.now)) (sym w.is_signalled.ensures ∙ w.if-is_signalled.false)
+          (handles_by c.args.self.now.win32 c.args.by.now.process) (drop (c.loop-place.place + 1) c.args.list.now)) (sym
+          w.is_signalled.ensures ∙ w.if-is_signalled.false)
       | in_default w ↦
           absurd (within-some c.args.list.now c.loop-place.place
           (omega (arith, c.loop-place-test.true, c.len-place-end.ensures.value))

@@ -11,6 +11,7 @@ get-requires c =
 pub returns-in-Some : goal.returns-in-Some
 returns-in-Some c =
     load-step c.args.self.now.win32 c.args.by.now.process c.args.h c.args.i c.load.result c.get.result.now
-    (object_is c.self.inside c.self.invariant c.args.self.now c.self.view_is c.args.by.now c.requires c.args.h c.in-Some.o
+    (object_is c.self.inside c.self.invariant c.args.self.now c.self.view_is c.args.by.now c.requires c.args.h
+    c.in-Some.o
     (sym c.in-Some.is ∙ c.named.ensures) c.get.result.now c.get.ensures.value)
     c.load.ensures

@@ -10,7 +10,8 @@ get-requires c =
 
 pub returns-in-Some : goal.returns-in-Some
 returns-in-Some c =
-    let it = named-process c.self.inside c.self.invariant c.args.self.now c.self.view_is c.args.by.now c.requires c.args.h
+    let it = named-process c.self.inside c.self.invariant c.args.self.now c.self.view_is c.args.by.now c.requires
+    c.args.h
     c.in-Some.o (sym c.in-Some.is ∙ c.named.ensures) c.get.result.now c.get.ensures.value c.process.result
     c.process.ensures in
     record { named = it.named; slot = it.slot }

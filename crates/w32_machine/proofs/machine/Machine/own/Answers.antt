@@ -11,4 +11,5 @@ returns-in-Some c =
 pub returns-in-None : goal.returns-in-None
 returns-in-None c =
     let m = c.self.inside in
-    rw (← c.self.view_is) (sym (own_in-none m c.self.invariant c.args.slot (sym c.in_slot.ensures.value ∙ c.in-None.is)))
+    rw (← c.self.view_is) (sym (own_in-none m c.self.invariant c.args.slot (sym c.in_slot.ensures.value ∙
+    c.in-None.is)))

@@ -1,4 +1,4 @@
-use Rattle.std.proofs.Common.{IsSome, ◌∙◌, sym, subst, arith}
+use Rattle.std.proofs.Common.{IsSome, sym, subst, arith}
 use Rattle.win32_spec.specs.Lookup.{thread_at}
 use Rattle.w32_machine.specs.Running.{Running}
 use Rattle.w32_machine.proofs.Keeping.{within_posted, call-found}
