@@ -256,7 +256,7 @@ image_is_ignored p q o n x s r a other g =
     }
 
 -- a part by its fields
-part_of : (slot thread : ℕ) → Step → ThreadPart
+abbrev part_of : (slot thread : ℕ) → Step → ThreadPart
 part_of slot thread s = record { slot = slot; thread = thread; step = s }
 
 -- one part begins a thread of a slot
