@@ -8,3 +8,10 @@ mod Words
 mod Processes
 mod Signalled
 mod Readiness
+mod Closing
+mod ClosedSound
+mod Leaving
+mod Ending
+mod Closes
+mod Leavings
+mod Leaves

@@ -4,3 +4,4 @@ pub mod Running
 pub mod Contract
 pub mod View
 pub mod Sound
+pub mod Ending
