@@ -15,3 +15,6 @@ mod Ending
 mod Closes
 mod Leavings
 mod Leaves
+mod Handing
+mod Adding
+mod Piping

@@ -5,3 +5,4 @@ pub mod Contract
 pub mod View
 pub mod Sound
 pub mod Ending
+pub mod Handing
