@@ -18,3 +18,5 @@ mod Leaves
 mod Handing
 mod Adding
 mod Piping
+mod Finding
+mod Opening

@@ -20,6 +20,7 @@ use w32_process::Processes;
 use w32_section::BadIndex;
 
 mod ending;
+mod finding;
 mod making;
 mod naming;
 mod objects;

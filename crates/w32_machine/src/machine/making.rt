@@ -2,10 +2,12 @@
 
 ghost use Rattle.std.specs.Prelude.{◌≡◌, ◌<◌, [], length, false, IsSome};
 ghost use Rattle.win32_spec.specs.Handles.{with_handle, IsLowestFree};
+ghost use Rattle.win32_spec.specs.HandleCalls.{DupStep};
 ghost use Rattle.win32_spec.specs.Lookup.{IsFresh, with_new_object};
 ghost use Rattle.win32_spec.specs.Lookup.{with_handles as with_state_handles};
 ghost use Rattle.win32_spec.specs.Named.{handles_by, is_full, GetsHandle, MakesObject};
 ghost use Rattle.win32_spec.specs.ObjectCalls.{EventStep, MutexStep, PipeStep};
+ghost use Rattle.win32_spec.specs.ProcessCalls.{OpenStep};
 ghost use Rattle.win32_spec.specs.WellFormed.{IsListed};
 ghost use Rattle.w32_handles.specs.Table.{object_at, Changes};
 ghost use Rattle.w32_process.specs.Table.{number_at, place_at, with_handles};
@@ -16,6 +18,7 @@ ghost use Rattle.w32_machine.specs.View.{shown};
 use crate::caller::Caller;
 use crate::kind::{Kind, end_of};
 use crate::machine::Machine;
+use crate::machine::finding::{object_of, slot_of};
 use w32_base::{HandleNo, ObjectNo, Reply, Slot, WinNo};
 use w32_handles::Objects;
 use w32_process::Processes;
@@ -53,6 +56,40 @@ impl Machine {
         let (o, read_end) = self.add(by, Kind::Pipe(new_pipe()));
         let write_end = self.hand(by, ObjectNo::new(o.get() + 1));
         Reply::Two(read_end, write_end)
+    }
+
+    // `open`
+    pub(super) fn open_process(&mut self, by: &Caller, w: WinNo) -> Reply
+        requires { IsCaller self.old.win32 by.now }
+        ensures step { OpenStep self.old.win32 by.now.process w result self.new.win32 }
+        ensures script { self.new.script ≡ self.old.script }
+    {
+        match object_of(&self.objects, w) {
+            Some(o) => self.give(by, o),
+            None => match slot_of(&self.processes, w) {
+                Some(slot) => self.make(by, Kind::Process(w, slot)),
+                None => Reply::Unknown,
+            },
+        }
+    }
+
+    // `dup`
+    pub(super) fn dup(&mut self, by: &Caller, h: HandleNo, n: HandleNo) -> Reply
+        requires { IsCaller self.old.win32 by.now }
+        ensures step { DupStep self.old.win32 by.now.process h n result self.new.win32 }
+        ensures script { self.new.script ≡ self.old.script }
+    {
+        let Some(process) = self.named_process(by, h) else {
+            return Reply::BadHandle;
+        };
+        let (w, slot) = process;
+        if !self.lives(w, slot) {
+            return Reply::Gone;
+        }
+        match self.processes.handles(slot).get(n) {
+            Some(o) => self.give(by, o),
+            None => Reply::BadHandle,
+        }
     }
 
     // A new object with a handle of the caller, which becomes its one holder.
