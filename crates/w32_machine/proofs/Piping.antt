@@ -29,7 +29,8 @@ handles-twice w hs hs' (p ∷ ps) =
 
 -- other handles leave each process in its slot
 number-stays : (w : ℕ) (hs : List Handle) (ps : List Process) (slot : ℕ)
-    → number_of (process_in (change_process w (λ p. record p { handles = hs }) ps) slot) ≡ number_of (process_in ps slot)
+    → number_of (process_in (change_process w (λ p. record p { handles = hs }) ps) slot) ≡
+    number_of (process_in ps slot)
 number-stays w hs [] slot = refl
 number-stays w hs (p ∷ ps) slot =
     let rest = number-stays w hs ps slot in
