@@ -20,3 +20,5 @@ mod Adding
 mod Piping
 mod Finding
 mod Opening
+mod Reaching
+mod Counting

@@ -6,3 +6,4 @@ pub mod View
 pub mod Sound
 pub mod Ending
 pub mod Handing
+pub mod Reached
