@@ -22,3 +22,4 @@ mod Finding
 mod Opening
 mod Reaching
 mod Counting
+mod Waits

@@ -7,3 +7,4 @@ pub mod Sound
 pub mod Ending
 pub mod Handing
 pub mod Reached
+pub mod Waited

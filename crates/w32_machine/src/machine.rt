@@ -26,6 +26,7 @@ mod naming;
 mod objects;
 mod processes;
 mod ready;
+mod waiting;
 mod words;
 
 /// How many threads there may be: three in each of 65 slots.
