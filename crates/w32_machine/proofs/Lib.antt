@@ -23,3 +23,6 @@ mod Opening
 mod Reaching
 mod Counting
 mod Waits
+mod Owned
+mod Running
+mod Copying

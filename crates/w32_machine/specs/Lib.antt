@@ -8,3 +8,4 @@ pub mod Ending
 pub mod Handing
 pub mod Reached
 pub mod Waited
+pub mod Copies

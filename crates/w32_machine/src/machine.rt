@@ -22,6 +22,8 @@ use w32_section::BadIndex;
 mod ending;
 mod finding;
 mod making;
+mod local;
+mod memory;
 mod naming;
 mod objects;
 mod processes;
