@@ -24,5 +24,7 @@ mod Reaching
 mod Counting
 mod Waits
 mod Owned
+mod TerminalSteps
 mod Running
 mod Copying
+mod TerminalLines

@@ -8,4 +8,5 @@ pub mod Ending
 pub mod Handing
 pub mod Reached
 pub mod Waited
+pub mod Terminals
 pub mod Copies

@@ -10,6 +10,8 @@ use w32_base::{ObjectNo, Reply, Slot, ThreadNo, WinNo};
 use w32_section::{BadIndex, Section};
 use w32_sync::{GetFault, Pipe, PipeEnd, PutFault, Took, WinEvent, WinMutex};
 
+pub mod terminals;
+
 /// How many words the shared section has.
 pub const WORDS: usize = 12_001;
 

@@ -28,6 +28,7 @@ mod naming;
 mod objects;
 mod processes;
 mod ready;
+mod terminal;
 mod waiting;
 mod words;
 
