@@ -25,6 +25,8 @@ mod Counting
 mod Waits
 mod Owned
 mod TerminalSteps
+mod FreePages
+mod Placing
 mod Running
 mod Copying
 mod TerminalLines
