@@ -30,3 +30,13 @@ mod Placing
 mod Running
 mod Copying
 mod TerminalLines
+mod Numbers
+mod CallNumbers
+mod Made
+mod Following
+mod PartTurns
+mod NextCall
+mod Owning
+mod Threads
+mod Places
+mod PartCalls

@@ -10,3 +10,6 @@ pub mod Reached
 pub mod Waited
 pub mod Terminals
 pub mod Copies
+pub mod Turning
+pub mod Driving
+pub mod DrivenTurns

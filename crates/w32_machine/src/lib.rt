@@ -3,9 +3,11 @@
 #![tactic(auto)]
 
 mod caller;
+mod driven;
 mod kind;
 mod machine;
 mod placements;
 
-pub use machine::Machine;
+pub use driven::{Driven, DrivenTurn};
+pub use machine::{Machine, Turned};
 pub use w32_section::BadIndex;

@@ -24,13 +24,20 @@ mod finding;
 mod making;
 mod local;
 mod memory;
+mod lent;
 mod naming;
 mod objects;
 mod processes;
 mod ready;
 mod terminal;
 mod waiting;
+mod stubs_ends;
+mod stubs_making;
+mod stubs_threads;
+mod turn;
 mod words;
+
+pub use turn::Turned;
 
 /// How many threads there may be: three in each of 65 slots.
 const THREADS: u16 = 195;

@@ -1,0 +1,83 @@
+-- The threads of a slot, by the tables.
+use Rattle.std.proofs.Common.{◌≡◌, ◌≢◌, ◌∙◌, ◌↔◌, ℕ, true, false, nat_eq, Option, Some, None, IsSome, IsTrue, refl, sym, ap}
+use Rattle.std.proofs.Common.{subst, ◌≤◌, Bool, not, arith}
+use Rattle.std.proofs.lemmas.Bool.{eqb-true}
+use Rattle.std.specs.Option.{option_eq}
+use Rattle.win32_spec.specs.State.{Process}
+use Rattle.win32_spec.specs.Lookup.{process_in, thread_of, thread_at, number_of, number_in}
+use Rattle.win32_spec.specs.LookupLaws.{same}
+use Rattle.w32_process.specs.Places.{count_of}
+use Rattle.w32_process.specs.SoundLaws.{within_slots}
+use Rattle.w32_process.specs.Table.{place_at, number_at, count_at}
+use Rattle.w32_process.specs.ThreadLaws.{thread_shown}
+use Rattle.w32_machine.specs.declared.machine.Machine.TheInside.{Inside}
+use Rattle.w32_machine.specs.Running.{Running}
+use Rattle.w32_machine.specs.View.{posted_in, view_of}
+use Rattle.w32_machine.specs.Sound.{IsSound}
+use Rattle.w32_machine.proofs.Processes.{numbers}
+use Rattle.w32_machine.proofs.Readiness.{thread-at}
+
+none_of : (o : Option Process) → number_of o ≡ None → o ≡ None
+none_of None e = refl
+none_of (Some p) e = absurd (cc)
+
+module _ (m : Inside) (sound : IsSound m) (now : Running) (shows : view_of m ≡ now) (slot t : ℕ) where
+  uncounted : number_at m.processes.slots slot ≡ None → count_at m.processes.slots slot t ≡ None
+  uncounted e = rw e refl
+
+  pub counted-some : (n : ℕ) → count_at m.processes.slots slot t ≡ Some n → IsSome (thread_at now.win32 slot t)
+  counted-some n e = by_number (number_at m.processes.slots slot) refl
+    where
+      by_number : (o : Option ℕ) → number_at m.processes.slots slot ≡ o → IsSome (thread_at now.win32 slot t)
+      by_number None f = absurd (let g : None ≡ Some n = sym (uncounted f) ∙ e in cc)
+      by_number (Some w) f =
+          rw (thread-at m sound now shows slot w t (sym (numbers m sound now shows slot) ∙ f)
+          ∙ ap (thread_shown (posted_in m.posted.items slot) t) e) refl
+
+  pub counted-none : count_at m.processes.slots slot t ≡ None → thread_at now.win32 slot t ≡ None
+  counted-none e = by_number (number_at m.processes.slots slot) refl
+    where
+      by_number : (o : Option ℕ) → number_at m.processes.slots slot ≡ o → thread_at now.win32 slot t ≡ None
+      by_number None f =
+          ap (λ o. thread_of o t)
+          (none_of (process_in now.win32.processes slot) (sym (numbers m sound now shows slot) ∙ f))
+      by_number (Some w) f =
+          thread-at m sound now shows slot w t (sym (numbers m sound now shows slot) ∙ f)
+          ∙ ap (thread_shown (posted_in m.posted.items slot) t) e
+
+-- no process stands in a slot past the last one
+pub few-slots : (m : Inside) → IsSound m → (now : Running) → view_of m ≡ now → (k w : ℕ)
+    → number_in now.win32 k ≡ Some w → k ≤ 64
+few-slots m sound now shows k w e =
+    omega (arith, within_slots m.processes.slots k w (numbers m sound now shows k ∙ e), sound.table.few)
+
+pub some-iff : {X : Type 0} (o : Option X) → IsSome o → IsTrue true ↔ IsSome o
+some-iff o s = (λ e. s, λ s. refl)
+
+pub none-iff : {X : Type 0} (o : Option X) → o ≡ None → IsTrue false ↔ IsSome o
+none-iff None e = (λ f. absurd (cc), λ s. absurd (cc))
+none-iff (Some x) e = absurd (cc)
+
+-- a number that was compared
+pub is-number : (o : Option ℕ) (w : ℕ) → option_eq nat_eq o (Some w) ≡ true → o ≡ Some w
+is-number None w e = absurd (cc)
+is-number (Some v) w e = ap (λ n. Some n) (eqb-true v w e)
+
+pub is-other : (o : Option ℕ) (w : ℕ) → option_eq nat_eq o (Some w) ≡ false → o ≢ Some w
+is-other o w e f =
+    let s = same w w refl in
+    let g : option_eq nat_eq o (Some w) ≡ true = rw f s in absurd (cc)
+
+pub is-alike : (o : Option ℕ) (w : ℕ) → not (option_eq nat_eq o (Some w)) ≡ false → o ≡ Some w
+is-alike o w e = is-number o w (by_test (option_eq nat_eq o (Some w)) e)
+  where
+    by_test : (b : Bool) → not b ≡ false → b ≡ true
+    by_test true f = refl
+    by_test false f = absurd (cc)
+
+pub is-unlike : (o : Option ℕ) (w : ℕ) → not (option_eq nat_eq o (Some w)) ≡ true → o ≢ Some w
+is-unlike o w e = is-other o w (by_test (option_eq nat_eq o (Some w)) e)
+  where
+    by_test : (b : Bool) → not b ≡ true → b ≡ false
+    by_test true f = absurd (cc)
+    by_test false f = refl
