@@ -12,12 +12,15 @@ use Rattle.w32_sync.specs.declared.PipeEnd.{PipeEnd}
 use Rattle.w32_sync.specs.declared.PipeEnd.TheVariants.{Read, Write}
 use Rattle.w32_machine.specs.declared.kind.Kind.{Kind}
 use Rattle.w32_machine.specs.Kinds.{IsProcess, ends_on, with_ends, kind_left_by}
+
 -- the end that a number names
 abbrev pub end_by : ℕ → PipeEnd
 end_by o = if is_first_end o then Read else Write
+
 -- an object with a handle less on an end
 abbrev pub kind_without : PipeEnd → Kind → Kind
 kind_without end x = with_ends x end (ends_on x end - 1)
+
 -- the object, which a handle less names by the end of its number, or nothing where that was the last one
 abbrev pub kept_without : ℕ → Kept Kind → Option (Kept Kind)
 kept_without o kept =
@@ -25,31 +28,35 @@ kept_without o kept =
       object = kind_without (end_by o) kept.object;
       holders = kept.holders - 1;
     }) else None
+
 -- the object is there, and some handle names this end of it
 abbrev pub HasHolder : Table Kind → ℕ → Type 0
 HasHolder t o = IsSomeAnd (object_at t o) (λ kept. 0 < ends_on kept.object (end_by o))
+
 -- a handle less names it
 abbrev pub LeavesOne : Table Kind → Table Kind → ℕ → Type 0
 LeavesOne old new o = IfSome (object_at old o) (λ kept. Changes old new o (kept_without o kept))
+
 -- the process that an object was of which goes with a handle on it
 abbrev pub WentWith : Option (Kept Kind) → Option (ℕ × ℕ) → Type 0
 WentWith None went = Unit {0}
 WentWith (Some kept) went = MatchBool (nat_lt 1 kept.holders) (went ≡ None) (IsProcess kept.object went)
+
 -- a process that doesn't stand in its slot is kept
 abbrev pub MayForget : processes.Table → Option (ℕ × ℕ) → Type 0
 MayForget t went = IfSome went (λ p. number_at t.slots p.1 ≢ Some p.0 → IsSome (code_of t.kept p.0))
+
 -- it is kept no more
 abbrev pub Forgets : processes.Table → Option (ℕ × ℕ) → processes.Table → Type 0
 Forgets old went new =
     MatchOption went (new ≡ old) (λ p.
     ((number_at old.slots p.1 ≡ Some p.0) × (new ≡ old))
     ⊎ ((number_at old.slots p.1 ≢ Some p.0) × (new ≡ (record old { kept = without_kept old.kept p.0 }))))
+
 -- what the end of a process leaves of an object
 abbrev pub left_kept : ℕ → Option (Kept Kind) → Option (Kept Kind)
 left_kept w None = None
 left_kept w (Some kept) = Some (record kept { object = kind_left_by w kept.object })
--- How an end of a process from outside came out.
-use Rattle.std.specs.Prelude.{ℕ, Option, Some, None}
 
 -- how the end of the process in a slot came out
 abbrev pub outcome_of_end : Option ℕ → Outcome

@@ -32,8 +32,6 @@ mod ready;
 mod terminal;
 mod waiting;
 mod stubs_ends;
-mod stubs_making;
-mod stubs_threads;
 mod turn;
 mod words;
 

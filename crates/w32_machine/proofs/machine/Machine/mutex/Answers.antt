@@ -3,6 +3,7 @@ use Rattle.win32_spec.specs.Objects.{Owned}
 use Rattle.w32_sync.specs.Owner.{ownership_at_first}
 use Rattle.w32_machine.proofs.machine.Machine.mutex.Goals as goal
 use Rattle.w32_machine.proofs.machine.Machine.mutex.Goals.{then-owned, else-owned}
+
 pub make-requires-clause-kind : goal.make-requires-clause-kind
 make-requires-clause-kind c =
     elim c.if-owned.branch [
@@ -14,5 +15,3 @@ make-requires-clause-kind c =
       )
       | else-owned w ↦ (false, c.new.ensures ∙ ap ownership_at_first w.owner-is)
     ]
-pub returns-clause-step : goal.returns-clause-step
-returns-clause-step c = ?

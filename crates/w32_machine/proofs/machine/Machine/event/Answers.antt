@@ -1,4 +1,0 @@
-use Rattle.w32_machine.proofs.machine.Machine.event.Goals as goal
-
-pub returns-clause-step : goal.returns-clause-step
-returns-clause-step c = ?
