@@ -40,3 +40,4 @@ mod Owning
 mod Threads
 mod Places
 mod PartCalls
+mod ModuleSteps

@@ -1,10 +1,11 @@
-//! The call of a process on itself: `run`.
+//! The calls of a process on itself: `run` and `module`.
 
 ghost use Rattle.std.specs.Prelude.{◌≡◌, length};
 ghost use Rattle.vm_spec.specs.Block.{block_length, block_image};
 ghost use Rattle.vm_spec.specs.Image.{image_of, with_image};
 ghost use Rattle.w32_base.specs.Part.{KeepsLengths};
 ghost use Rattle.win32_spec.specs.MemoryCalls.{RunStep};
+ghost use Rattle.win32_spec.specs.Placing.{ModuleStep};
 ghost use Rattle.w32_machine.specs.Contract.{IsCaller};
 
 use crate::caller::Caller;
@@ -27,6 +28,32 @@ impl Machine {
             }
             None => Reply::Ran(0),
         }
+    }
+
+    // `module`
+    pub(super) fn module(&mut self, by: &Caller, m: u32) -> Reply
+        requires { IsCaller self.old.win32 by.now }
+        ensures step { ModuleStep self.old.script self.old.win32 by.now.process m result self.new.win32 }
+        ensures script { self.new.script ≡ self.old.script }
+    {
+        let script = &self.script;
+        let modules = &script.setup.modules;
+        if self.processes.program(by.slot).is_none() {
+            return Reply::BadIndex;
+        }
+        if m as usize >= modules.len() {
+            return Reply::BadIndex;
+        }
+        let wanted = modules.as_slice()[m as usize];
+        let number = m as u8;
+        let slot = usize::from(by.slot.get());
+        if let Some(base) = self.placed[slot].base(number) {
+            return Reply::Base(base);
+        }
+        let creation = by.process.get() - 1;
+        let base = self.placed[slot].place_for(script, creation, &wanted);
+        self.placed[slot].push(number, base);
+        Reply::Base(base)
     }
 }
 
