@@ -41,3 +41,10 @@ mod Threads
 mod Places
 mod PartCalls
 mod ModuleSteps
+mod Below
+mod HandlesRoom
+mod Holding
+mod FreeSlot
+mod CreateSteps
+mod Created
+mod Creates

@@ -13,3 +13,4 @@ pub mod Copies
 pub mod Turning
 pub mod Driving
 pub mod DrivenTurns
+pub mod Creating

@@ -19,6 +19,7 @@ use w32_handles::Objects;
 use w32_process::Processes;
 use w32_section::BadIndex;
 
+mod creating;
 mod ending;
 mod finding;
 mod making;

@@ -1,0 +1,63 @@
+-- What a process that is made does to the objects that its handles name.
+use Rattle.std.specs.Prelude.{◌≡◌, ℕ, ◌+◌, ◌*◌, ◌≤◌, ◌<◌, List, Option, Some, None, IsSome, IfSome, slice_set}
+use Rattle.std.specs.Option.{IsSomeAnd}
+use Rattle.w32_base.specs.declared.call.Call.{Call}
+use Rattle.win32_spec.specs.Handles.{Handle, handle_of, holders_of, AreRisingFrom}
+use Rattle.win32_spec.specs.Lookup.{object_number}
+use Rattle.win32_spec.specs.Making.{opening_call}
+use Rattle.w32_handles.specs.Table.{Kept, Table, object_at, Changes}
+use Rattle.w32_sync.specs.declared.PipeEnd.TheVariants.{Read, Write}
+use Rattle.w32_machine.specs.declared.kind.Kind.{Kind}
+use Rattle.w32_machine.specs.declared.kind.Kind.TheVariants as kind
+use Rattle.w32_machine.specs.Kinds.{ends_on, with_ends}
+use Rattle.w32_machine.specs.Ending.{end_by}
+
+-- the object is there, and a handle more may name it by the end that the number tells
+abbrev pub MayHold : Table Kind → ℕ → Type 0
+MayHold t o = IsSomeAnd (object_at t o) (λ kept. (kept.holders < 4160) × (ends_on kept.object (end_by o) < 4160))
+
+-- an object that a handle more names
+abbrev pub kept_more : ℕ → Kept Kind → Kept Kind
+kept_more o kept = record {
+  object = with_ends kept.object (end_by o) (ends_on kept.object (end_by o) + 1);
+  holders = kept.holders + 1;
+}
+
+abbrev pub HoldsOne : Table Kind → Table Kind → ℕ → Type 0
+HoldsOne old new o = IfSome (object_at old o) (λ kept. Changes old new o (Some (kept_more o kept)))
+
+-- an object that so many handles more name by its first end, and so many by its second
+abbrev pub kind_with : ℕ → ℕ → Kind → Kind
+kind_with first second (kind.Pipe p) =
+    kind.Pipe (record p { readers = p.readers + first; writers = p.writers + second })
+kind_with first second (kind.Section words) = kind.Section words
+kind_with first second (kind.Event e) = kind.Event e
+kind_with first second (kind.Mutex owner) = kind.Mutex owner
+kind_with first second (kind.Process w slot) = kind.Process w slot
+kind_with first second (kind.Terminal terminal) = kind.Terminal terminal
+
+abbrev pub kept_with : ℕ → ℕ → Option (Kept Kind) → Option (Kept Kind)
+kept_with first second None = None
+kept_with first second (Some kept) =
+    Some (record { object = kind_with first second kept.object; holders = kept.holders + (first + second) })
+
+-- each of these handles more names its object
+abbrev pub HoldsEach : List Handle → Table Kind → Table Kind → Type 0
+HoldsEach hs old new = (o : ℕ) → object_at new o ≡
+    kept_with (holders_of hs (object_number o)) (holders_of hs (object_number o + 1)) (object_at old o)
+
+-- the handles are those of a process, the object of each is there, and there is room for them
+pub record HaveRoom (hs : List Handle) (t : Table Kind) : Type 0 where
+  pub rising : AreRisingFrom 1 hs
+  pub there : (h names : ℕ) → handle_of hs h ≡ Some names → IsSome (object_at t names)
+  pub holders : (o : ℕ) (kept : Kept Kind) → object_at t o ≡ Some kept
+      → kept.holders + (holders_of hs (object_number o) + holders_of hs (object_number o + 1)) ≤ 4160
+  pub first : (o : ℕ) (kept : Kept Kind) → object_at t o ≡ Some kept
+      → ends_on kept.object Read + holders_of hs (object_number o) ≤ 4160
+  pub second : (o : ℕ) (kept : Kept Kind) → object_at t o ≡ Some kept
+      → ends_on kept.object Write + holders_of hs (object_number o + 1) ≤ 4160
+
+-- the threads of a slot have posted their first call
+abbrev pub opened : ℕ → List Call → List Call
+opened slot calls = slice_set (slice_set (slice_set calls (3 * slot) opening_call) (3 * slot + 1) opening_call)
+    (3 * slot + 2) opening_call
