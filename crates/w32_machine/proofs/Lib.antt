@@ -48,3 +48,4 @@ mod FreeSlot
 mod CreateSteps
 mod Created
 mod Creates
+mod DrivenSteps

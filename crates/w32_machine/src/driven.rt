@@ -6,14 +6,13 @@ ghost use Rattle.w32_base.specs.declared.entry.Outcome.TheVariants as outcome;
 ghost use Rattle.script_spec.specs.declared.script.Script.{Script};
 ghost use Rattle.win32_spec.specs.Call.{CallStep};
 ghost use Rattle.win32_spec.specs.Driven.{part_at, DrivenBy, IsDrivenOpening, AllFollow, OpensPart};
-ghost use Rattle.win32_spec.specs.Driven.{DrivenTurn as TurnStep};
 ghost use Rattle.win32_spec.specs.Lookup.{thread_at};
 ghost use Rattle.win32_spec.specs.Named.{handles_by};
 ghost use Rattle.win32_spec.specs.Ready.{may_go};
 ghost use Rattle.win32_spec.specs.Run.{StepBy};
 ghost use Rattle.win32_spec.specs.WellFormed.{IsWellFormed};
 ghost use Rattle.w32_machine.specs.Contract.{IsCaller, key_lines};
-ghost use Rattle.w32_machine.specs.DrivenTurns.{called_by, came_by, event_by};
+ghost use Rattle.w32_machine.specs.DrivenTurns.{called_by, came_by, event_by, DoneBy};
 ghost use Rattle.w32_machine.specs.Driving.{IsServing, SlotFollows, OpensSlot, GoesOn, OtherSlotsStay};
 ghost use Rattle.w32_machine.specs.Driving.{IsCreate, EndsOnlyIn, HasFewThreads};
 ghost use Rattle.w32_machine.specs.Ending.{outcome_of_end};
@@ -41,6 +40,18 @@ pub enum DrivenTurn {
         /// The part's event, if any.
         event: Option<Event>,
     },
+}
+
+impl DrivenTurn {
+    /// The event that stands in it, if any.
+    pub fn event(&self) -> Option<Event>
+        ensures { result ≡ event_by self.now }
+    {
+        match *self {
+            DrivenTurn::Idle => None,
+            DrivenTurn::Done { event, .. } => event,
+        }
+    }
 }
 
 /// A machine with a part for each thread. A part gets nothing but the bytes of its own process, the setup, and the
@@ -79,13 +90,13 @@ impl<P: Whole + Drop> Driven<P> {
         ensures event { event_by result ≡ self.new.state.last }
         ensures script { self.new.script ≡ self.old.script }
     {
-        let Some((by, call)) = self.machine.next_call(slot, thread) else {
+        let Some(next) = self.machine.next_call(slot, thread) else {
             self.last = None;
             return DrivenTurn::Idle;
         };
-        let (reply, event) = act(&mut self.machine, &mut self.parts, by, call);
-        self.last = event;
-        DrivenTurn::Done { call, reply, event }
+        let turned = act(&mut self.machine, &mut self.parts, next.0, next.1);
+        self.last = turned.event();
+        turned
     }
 
     /// Ends the process in a slot from outside, and answers its number, or none where the slot is empty. Its parts go.
@@ -132,21 +143,25 @@ fn act<P: Whole + Drop>(
     parts: &mut Vec<Option<P>>,
     by: Caller,
     call: Call,
-) -> (Reply, Option<Event>)
+) -> DrivenTurn
     requires call { IsNextCall machine.old by.slot by.thread by call }
     requires next { machine.old.win32.next < 4294967295 }
     requires serving { IsServing P.posted_of P.goes P.opening P.slot_of P.thread_of machine.old parts.old.items }
-    ensures turned { TurnStep P.posted_of P.goes P.opening P.slot_of P.thread_of machine.old.script machine.old.win32
-        parts.old.items by.slot by.thread call result.0 result.1 machine.new.win32 parts.new.items }
+    ensures turned { DoneBy P.posted_of P.goes P.opening P.slot_of P.thread_of machine.old.script machine.old.win32
+        parts.old.items by.slot by.thread result machine.new.win32 parts.new.items }
     ensures script { machine.new.script ≡ machine.old.script }
     ensures places { length parts.new.items ≡ 195 }
 {
     let reply = carry_out(machine, parts, &by, &call);
     if machine.in_slot(by.slot) != Some(by.process) {
-        return (reply, None);
+        return DrivenTurn::Done {
+            call,
+            reply,
+            event: None,
+        };
     }
     let event = go_on(machine, parts, &by, &reply);
-    (reply, event)
+    DrivenTurn::Done { call, reply, event }
 }
 
 // Carries out a call of a thread. A process that was made gets its parts, and those of one that ended go.

@@ -1,4 +1,4 @@
-use Rattle.std.proofs.Common.{◌∙◌, ◌+◌, ◌*◌, ◌<◌, ◌≡◌, sym, subst, arith}
+use Rattle.std.proofs.Common.{◌+◌, ◌*◌, ◌<◌, ◌≡◌, subst, arith}
 use Rattle.win32_spec.specs.Driven.{OpensPart}
 use Rattle.win32_spec.specs.Lookup.{thread_at}
 use Rattle.w32_machine.proofs.Places.{three_set, set_first, set_second, set_third, set_aside, opens-slot}

@@ -1,4 +1,4 @@
-use Rattle.std.proofs.Common.{◌∙◌, sym, subst}
+use Rattle.std.proofs.Common.{subst}
 use Rattle.win32_spec.specs.Run.{Posts}
 use Rattle.w32_machine.proofs.Owning.{own-thread, own-goes}
 use Rattle.w32_machine.proofs.machine.Machine.go_on.Goals as goal

@@ -1,4 +1,4 @@
-use Rattle.std.proofs.Common.{◌∙◌, ◌≢◌, ◌≡◌, ◌<◌, ℕ, Some, sym, subst, arith}
+use Rattle.std.proofs.Common.{◌∙◌, ◌≢◌, Some, sym, subst, arith}
 use borrow.Author.Count.{below_more}
 use Rattle.win32_spec.specs.Lookup.{number_in}
 use Rattle.w32_machine.proofs.Threads.{is-number, is-other}
