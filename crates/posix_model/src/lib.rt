@@ -13,6 +13,7 @@ pub mod deaths;
 pub mod finds;
 pub mod groups;
 pub mod groups_seen;
+pub mod images;
 pub mod kills;
 pub mod machine;
 pub mod marks;

@@ -25,7 +25,7 @@ pub fn finish(own: &mut Own, r0: u32, r1: Option<u32>)
 
 /// Writes a number into four bytes of the data region.
 #[tactic(auto, unfolding(vm_spec::specs::Image::with_word))]
-fn set_word(dat: &mut Bytes<64>, place: usize, number: u32)
+pub fn set_word(dat: &mut Bytes<64>, place: usize, number: u32)
     requires size { length dat.old ≡ 64 }
     requires place { place ≤ 60 }
     ensures value { dat.new ≡ image.with_word dat.old place number }
