@@ -20,3 +20,4 @@ pub mod TerminalLemmas
 pub mod LeadLemmas
 pub mod ConsoleLemmas
 pub mod ActLemmas
+pub mod ForkLemmas

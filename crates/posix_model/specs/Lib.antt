@@ -13,6 +13,8 @@ pub mod Targets
 pub mod SignalAsked
 pub mod Waiting
 pub mod Asked
+pub mod Forked
+pub mod Executed
 pub mod Checked
 pub mod Terminals
 pub mod Leads

@@ -1,7 +1,7 @@
 //! The POSIX machine: which events are steps in a state, and the state after them.
 //!
-//! `Machine` has the parts of a state. So far there is a function for each event but `run`, `fork`, `forkfail`, `exec`,
-//! `execfail`, `return`, `deliver`, `die` and `line`.
+//! `Machine` has the parts of a state. So far there is a function for each event but `run`, `return`, `deliver`, `die`
+//! and `line`.
 #![tactic(auto)]
 
 pub mod asked;
@@ -10,7 +10,9 @@ pub mod changed;
 pub mod checks;
 pub mod console;
 pub mod deaths;
+pub mod execs;
 pub mod finds;
+pub mod forks;
 pub mod groups;
 pub mod groups_seen;
 pub mod images;

@@ -238,7 +238,7 @@ fn is_written(process: &Process, address: Number, count: Number, n: Number, byte
 }
 
 /// Whether bytes are the same.
-fn is_same(bytes: &[u8], other: &[u8]) -> bool
+pub fn is_same(bytes: &[u8], other: &[u8]) -> bool
     ensures { result ≡ is_same bytes.now other.now }
 {
     bytes == other
