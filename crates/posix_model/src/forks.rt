@@ -58,7 +58,7 @@ fn is_fork_cause(m: &Machine, p: Acting, cause: ForkCause) -> bool
 }
 
 /// `fork P C`. It fails, and changes nothing, only for want of memory.
-pub fn fork(m: &mut Machine, p: Acting, c: u32, alloc: Global) -> Result<bool, Memory>
+pub fn fork(alloc: Global, m: &mut Machine, p: Acting, c: u32) -> Result<bool, Memory>
     ensures { GivesOrFails (for_call (script_of m.old) (state_of m.old) p
         (spec.fork_step (script_of m.old) (state_of m.old) p c)) result m.old m.new }
 {
@@ -68,7 +68,7 @@ pub fn fork(m: &mut Machine, p: Acting, c: u32, alloc: Global) -> Result<bool, M
     let Some(number) = forks(m, p, c, call) else {
         return Ok(false);
     };
-    let child = Box::new(alloc, process.child(p, alloc)?)?;
+    let child = Box::new(alloc, process.child(alloc, p)?)?;
     m.add(number, child);
     m.answer_with(p, number.get());
     Ok(true)
@@ -127,10 +127,10 @@ impl Machine {
 impl Process {
     /// Its child, which has its group, session, terminal, mask, actions and image, with result 0, and nothing else of
     /// it. It fails only for want of memory.
-    fn child(&self, p: Acting, alloc: Global) -> Result<Process, Memory>
+    fn child(&self, alloc: Global, p: Acting) -> Result<Process, Memory>
         ensures { IfOk result (λ child. record_of child ≡ spec.child_of p (record_of self.now)) }
     {
-        let mut own = copied_image(&self.own, alloc)?;
+        let mut own = copied_image(alloc, &self.own)?;
         finish(&mut own, 0, None);
         Ok(Process {
             parent: p.get(),

@@ -10,7 +10,7 @@ use vm_spec::{DATA_BYTES, PROGRAM_AT};
 use w32_base::{Bytes, Memory, Own, Program};
 
 /// The same bytes. It fails only for want of memory.
-fn copied<const ROOM: usize>(bytes: &Bytes<ROOM>, alloc: Global) -> Result<Bytes<ROOM>, Memory>
+fn copied<const ROOM: usize>(alloc: Global, bytes: &Bytes<ROOM>) -> Result<Bytes<ROOM>, Memory>
     requires { length bytes.now ≤ ROOM }
     ensures { IfOk result (λ copy. copy ≡ bytes.now) }
 {
@@ -20,16 +20,16 @@ fn copied<const ROOM: usize>(bytes: &Bytes<ROOM>, alloc: Global) -> Result<Bytes
 }
 
 /// Memory with the same image, whose other regions have no bytes. It fails only for want of memory.
-pub fn copied_image(own: &Own, alloc: Global) -> Result<Own, Memory>
+pub fn copied_image(alloc: Global, own: &Own) -> Result<Own, Memory>
     requires data { length own.now.dat ≤ 64 }
     requires heap { length own.now.heap ≤ 32768 }
     requires stack { length own.now.stack ≤ 32768 }
     ensures { IfOk result (λ copy. image_of copy ≡ image_of own.now) }
 {
     Ok(Own {
-        dat: copied(&own.dat, alloc)?,
-        heap: copied(&own.heap, alloc)?,
-        stack: copied(&own.stack, alloc)?,
+        dat: copied(alloc, &own.dat)?,
+        heap: copied(alloc, &own.heap)?,
+        stack: copied(alloc, &own.stack)?,
         cyg: Bytes::new(alloc)?,
         scratch: Bytes::new(alloc)?,
     })
