@@ -8,8 +8,9 @@ use Rattle.w32_base.specs.declared.instr.Instr.{Instr}
 use Rattle.w32_base.specs.declared.instr.Instr.TheVariants as instr
 use Rattle.script_spec.specs.declared.script.Script.{Script}
 use Rattle.posix_spec.specs.Conditions.{answered}
-use Rattle.posix_spec.specs.ForkSteps.{child_of, with_used, fork_step, fork_fail_step, program_named, exec_to, exec_step}
-use Rattle.posix_spec.specs.ForkSteps.{exec_result, exec_fail_step, NumberedProgram, program_from}
+use Rattle.posix_spec.specs.ForkSteps.{child_of, with_used, fork_step, fork_fail_step}
+use Rattle.posix_spec.specs.ForkSteps.{NumberedProgram, program_from, program_named, exec_to, exec_step}
+use Rattle.posix_spec.specs.ForkSteps.{exec_result, exec_fail_step}
 use Rattle.posix_spec.specs.Numbers.{error_result}
 use Rattle.posix_spec.specs.Records.{with_record}
 use Rattle.posix_spec.specs.State.{Record, PosixState}

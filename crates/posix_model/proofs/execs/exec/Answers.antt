@@ -32,4 +32,5 @@ returns c =
     let is = call_some (exec_step script s p c.args.name) script s p r i c.in-Some.ensures.0
     ∙ exec_step-is script s p c.args.name r i
     ∙ ap (λ b. cond b (exec_to s p (program_named script c.args.name)) None) (sym c.if-not-is_exec.ensures) in
-    subst (λ (step : Option PosixState). Gives step c.begin.result c.args.m.now c.begin.new.self) (sym is) c.begin.ensures
+    subst (λ (step : Option PosixState). Gives step c.begin.result c.args.m.now c.begin.new.self) (sym is)
+    c.begin.ensures

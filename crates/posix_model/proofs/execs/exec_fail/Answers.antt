@@ -12,11 +12,12 @@ use Rattle.posix_model.proofs.execs.exec_fail.Goals as goal
 pub returns-then-not-exec_fails : goal.returns-then-not-exec_fails
 returns-then-not-exec_fails c =
     let s = state_of c.args.m.now in
+    let script = script_of c.args.m.now in
     let p = c.args.p in
     let r = record_of c.in-Some.field-0-0.now in
     let i = instr_of c.in-Some.call in (
-      call_some (exec_fail_step (script_of c.args.m.now) s p c.args.cause) (script_of c.args.m.now) s p r i c.in-Some.ensures.0
-          ∙ exec_fail_step-is (script_of c.args.m.now) s p c.args.cause r i
+      call_some (exec_fail_step script s p c.args.cause) script s p r i c.in-Some.ensures.0
+          ∙ exec_fail_step-is script s p c.args.cause r i
           ∙ test_false _ _ (sym c.if-not-exec_fails.ensures),
       refl,
     )
@@ -24,11 +25,12 @@ returns-then-not-exec_fails c =
 pub returns : goal.returns
 returns c =
     let s = state_of c.args.m.now in
+    let script = script_of c.args.m.now in
     let p = c.args.p in
     let r = record_of c.in-Some.field-0-0.now in
     let i = instr_of c.in-Some.call in (
-      call_some (exec_fail_step (script_of c.args.m.now) s p c.args.cause) (script_of c.args.m.now) s p r i c.in-Some.ensures.0
-          ∙ exec_fail_step-is (script_of c.args.m.now) s p c.args.cause r i
+      call_some (exec_fail_step script s p c.args.cause) script s p r i c.in-Some.ensures.0
+          ∙ exec_fail_step-is script s p c.args.cause r i
           ∙ test_true _ _ (sym c.if-not-exec_fails.ensures)
           ∙ ap (λ z. Some (answered s p z)) (sym c.exec_error.ensures)
           ∙ ap Some (sym c.fail.ensures.state),
