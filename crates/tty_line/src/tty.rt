@@ -4,6 +4,7 @@ ghost use Rattle.std.specs.Prelude.{◌≡◌, ℕ, ◌≤◌, ◌<◌, [], ◌�
 ghost use Rattle.tty_spec.specs.Terminal.{Terminal, terminal_session, opening_terminal};
 ghost use Rattle.tty_spec.specs.Discipline.{after_key, after_take, has_flag, has_line, signal_of_key, signalling, erasing, killing, ending, adding, editing};
 ghost use Rattle.tty_line.specs.Key.{IsKeyDone};
+ghost use Rattle.tty_line.specs.Peek.{bytes_taken};
 
 use crate::line::Line;
 use arrayvec::ArrayVec;
@@ -111,6 +112,16 @@ impl Tty {
             self.done.remove(0);
         }
         Some(bytes)
+    }
+
+    /// The bytes that `take_line` would take, or none exactly where no line is done.
+    pub fn peek_line(&self, n: u8) -> Option<Bytes64>
+        requires { n ≤ 64 }
+        ensures { result ≡ bytes_taken (after_take self.now n) }
+    {
+        let first = self.done.as_slice().first()?;
+        let count = first.len().min(usize::from(n));
+        Some(Bytes64::from_slice(&first.as_slice()[..count]))
     }
 
     /// Sets the foreground group.
