@@ -1,5 +1,5 @@
 -- Changes of one process.
-use Rattle.std.proofs.Common.{◌≡◌, ℕ, Option, Some, None, true, false, cond, eqb-true, refl, sym, ◌∙◌, ap}
+use Rattle.std.proofs.Common.{◌≡◌, ℕ, Option, Some, None, true, false, cond, eqb-true, refl, sym, ◌∙◌, ap, subst}
 use Rattle.std.specs.Ordering.{nat_cmp, eq_by_cmp}
 use Rattle.std.specs.Cmp.{nat_cmp_total, unsigned_tied}
 use Rattle.std.proofs.lemmas.Option.{same_Some}
@@ -47,6 +47,25 @@ module _ (s : PosixState) (p : ℕ) (f : Record → Record) where
   pub kept_at : {X : Type 0} (g : Record → X) → ((r : Record) → g (settled (f r)) ≡ g r) → (q : ℕ) (x : Record) →
       record_of (change_record s p f) q ≡ Some x → (r : Record) × (record_of s q ≡ Some r) × (g x ≡ g r)
   kept_at g keeps q x e = kept_by g keeps q x (record_of s p) refl e
+
+-- what holds of a process after each change of it, and of all before
+module _ (s : PosixState) (p : ℕ) (f : Record → Record) (P : Record → Type 0) (after : (r : Record) → P (settled (f r)))
+  where
+    held_by : (q : ℕ) (x : Record) (o : Option Record) → ((r : Record) → record_of s q ≡ Some r → P r) →
+        record_of (changed_at s p f o) q ≡ Some x → P x
+    held_by q x None before e = before x e
+    held_by q x (Some r) before e =
+        let new : Record = settled (f r) in
+        let found : cond (eq_by_cmp nat_cmp q p) (Some new) (record_of s q) ≡ Some x = sym (map.get-insert
+        nat_cmp_total s.records p new q) ∙ e in
+        elim (eq_by_cmp nat_cmp q p) as (λ b. cond b (Some new) (record_of s q) ≡ Some x → P x) [
+          | true ↦ λ put. subst P (same_Some new x put) (after r)
+          | false ↦ λ here. before x here
+        ] found
+
+    pub held_at : (q : ℕ) → ((r : Record) → record_of s q ≡ Some r → P r) → (x : Record) →
+        record_of (change_record s p f) q ≡ Some x → P x
+    held_at q before x e = held_by q x (record_of s p) before e
 
 module _ (s : PosixState) (p : ℕ) (f g : Record → Record) (same : (r : Record) → record_of s p ≡ Some r → f r ≡ g r)
   where

@@ -21,3 +21,6 @@ pub mod LeadLemmas
 pub mod ConsoleLemmas
 pub mod ActLemmas
 pub mod ForkLemmas
+pub mod HandlerLemmas
+pub mod DeathLemmas
+pub mod CallingLemmas

@@ -19,3 +19,5 @@ pub mod Checked
 pub mod Terminals
 pub mod Leads
 pub mod Left
+pub mod Handled
+pub mod Handlings
