@@ -24,3 +24,4 @@ pub mod ForkLemmas
 pub mod HandlerLemmas
 pub mod DeathLemmas
 pub mod CallingLemmas
+pub mod BlockLemmas

@@ -20,4 +20,5 @@ pub mod Terminals
 pub mod Leads
 pub mod Left
 pub mod Handled
+pub mod Blocks
 pub mod Handlings

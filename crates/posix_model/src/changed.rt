@@ -109,8 +109,8 @@ impl Process {
         self.go_on();
     }
 
-    // The call goes on.
-    fn go_on(&mut self)
+    /// The call goes on.
+    pub fn go_on(&mut self)
         ensures { record_of self.new ≡ conditions.call_goes_on (record_of self.old) }
     {
         self.lost = SigSet::empty();

@@ -27,6 +27,7 @@ pub mod own;
 pub mod process;
 pub mod results;
 pub mod returns;
+pub mod runs;
 pub mod scans;
 pub mod sending;
 pub mod signal_acts;
