@@ -25,3 +25,4 @@ pub mod HandlerLemmas
 pub mod DeathLemmas
 pub mod CallingLemmas
 pub mod BlockLemmas
+pub mod ReadLemmas

@@ -22,3 +22,4 @@ pub mod Left
 pub mod Handled
 pub mod Blocks
 pub mod Handlings
+pub mod Reads

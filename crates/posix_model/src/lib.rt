@@ -19,6 +19,7 @@ pub mod groups_seen;
 pub mod handlers;
 pub mod images;
 pub mod kills;
+pub mod lines;
 pub mod machine;
 pub mod marks;
 pub mod numbers;

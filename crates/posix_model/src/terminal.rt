@@ -253,14 +253,14 @@ fn bytes_at(bytes: &[u8], place: u32, count: u8) -> &[u8]
 }
 
 /// An address as a place.
-fn address_of(address: Number) -> u32
+pub fn address_of(address: Number) -> u32
     ensures { result ≡ address_of address }
 {
     natural(address).unwrap_or(0)
 }
 
 /// How many bytes a call of this count moves.
-fn count_of(count: Number) -> u8
+pub fn count_of(count: Number) -> u8
     ensures value { result ≡ count_of count }
     ensures range { result ≤ 64 }
 {
