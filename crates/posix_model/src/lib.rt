@@ -1,7 +1,6 @@
 //! The POSIX machine: which events are steps in a state, and the state after them.
 //!
-//! `Machine` has the parts of a state. So far there is a function for each event but `run`, `return`, `deliver`, `die`
-//! and `line`.
+//! `Machine` has the parts of a state. There is a function for each event.
 #![tactic(auto)]
 
 pub mod asked;
