@@ -26,3 +26,6 @@ pub mod DeathLemmas
 pub mod CallingLemmas
 pub mod BlockLemmas
 pub mod ReadLemmas
+pub mod CopyLemmas
+pub mod OpeningLemmas
+pub mod AppliedLemmas

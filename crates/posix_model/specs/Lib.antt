@@ -23,3 +23,8 @@ pub mod Handled
 pub mod Blocks
 pub mod Handlings
 pub mod Reads
+pub mod Copies
+pub mod Rules
+pub mod Opened
+pub mod Applied
+pub mod ScriptLaws

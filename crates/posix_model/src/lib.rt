@@ -1,6 +1,6 @@
 //! The POSIX machine: which events are steps in a state, and the state after them.
 //!
-//! `Machine` has the parts of a state. There is a function for each event.
+//! `State` opens by a script and takes any event. `Machine` has its parts, and there is a function for each event.
 #![tactic(auto)]
 
 pub mod asked;
@@ -22,16 +22,20 @@ pub mod lines;
 pub mod machine;
 pub mod marks;
 pub mod numbers;
+pub mod opening;
 pub mod operands;
 pub mod own;
 pub mod process;
 pub mod results;
 pub mod returns;
+pub mod rule;
 pub mod runs;
 pub mod scans;
 pub mod sending;
 pub mod signal_acts;
 pub mod signal_calls;
+pub mod state;
+pub mod step;
 pub mod table;
 pub mod terminal;
 pub mod waits;
