@@ -26,7 +26,7 @@ use Rattle.w32_machine.specs.Reached.{Reaches, Misses}
 use Rattle.w32_machine.specs.Running.{Running}
 use Rattle.w32_machine.specs.View.{view_of}
 use Rattle.w32_machine.specs.Sound.{IsSound}
-use Rattle.w32_machine.proofs.Owned.{own-same, owned, owned-is, owned-sound}
+use Rattle.w32_machine.proofs.Owned.{own-same, owned-is, owned-sound}
 use Rattle.w32_machine.proofs.Processes.{numbers}
 use Rattle.w32_machine.proofs.Slots.{memory_at}
 

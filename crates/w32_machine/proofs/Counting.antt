@@ -28,7 +28,7 @@ use Rattle.w32_machine.specs.View.{posted_in, placed_in, view_of}
 use Rattle.w32_machine.specs.Sound.{IsSound}
 use Rattle.w32_machine.proofs.Called.{formed-effect}
 use Rattle.w32_machine.proofs.Keeping.{IsOver, sound-over}
-use Rattle.w32_machine.proofs.Reaching.{at, reached, live-found, thread-counted}
+use Rattle.w32_machine.proofs.Reaching.{at, live-found, thread-counted}
 
 module _ (m : Inside) (sound : IsSound m) (slot v : ℕ) (stands : number_at m.processes.slots slot ≡ Some v)
     (place : Place) (stays : place.number ≡ Some v) (f : Process → Process) (life : (p : Process) → (f p).life ≡ p.life)

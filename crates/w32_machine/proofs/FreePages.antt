@@ -1,5 +1,5 @@
 -- There is always room for a module: few of the 128 blocks of 8 pages have a taken page.
-use Rattle.std.proofs.Common.{◌≡◌, ◌≢◌, ◌⊎◌, inl, inr, ℕ, zero, suc, ◌+◌, ◌*◌, ◌/◌, ◌≤◌, ◌<◌, Bool, true, false, ◌&&◌}
+use Rattle.std.proofs.Common.{◌≡◌, ◌≢◌, inl, inr, ℕ, zero, suc, ◌+◌, ◌*◌, ◌/◌, ◌≤◌, ◌<◌, Bool, true, false, ◌&&◌}
 use Rattle.std.proofs.Common.{◌||◌, nat_eq, nat_le, nat_lt, if◌then◌else◌, List, [], ◌∷◌, length, Option, Some, None}
 use Rattle.std.proofs.Common.{slice_get, refl, sym, ap, ◌∙◌, arith}
 use Rattle.std.proofs.lemmas.Bool.{cases_eq}
@@ -8,7 +8,7 @@ use Rattle.w32_base.specs.declared.setup.Module.{Module}
 use Rattle.script_spec.specs.declared.script.OccupiedPage.{OccupiedPage}
 use Rattle.script_spec.specs.declared.script.Script.{Script}
 use Rattle.win32_spec.specs.LookupLaws.{same, differs}
-use Rattle.win32_spec.specs.Placing.{is_occupied, pages_of, is_in_module, is_taken, taken_pages}
+use Rattle.win32_spec.specs.Placing.{is_occupied, pages_of, is_in_module, taken_pages}
 use Rattle.win32_spec.specs.PlacingLaws.{taken_pages-at}
 use Rattle.win32_spec.specs.Regions.{IsFreeRange}
 use Rattle.win32_spec.specs.State.{PlacedModule}

@@ -1,6 +1,6 @@
 -- A module that is placed in the caller's process.
-use Rattle.std.proofs.Common.{◌≡◌, ◌≢◌, ◌∙◌, inl, inr, not, ℕ, zero, suc, ◌+◌, ◌-◌, ◌<◌, ◌≤◌, Bool, true, false, ◌||◌, eqb}
-use Rattle.std.proofs.Common.{nat_eq, if◌then◌else◌, List, [], ◌∷◌, length, Option, Some, None, is_some, MatchOption}
+use Rattle.std.proofs.Common.{◌≡◌, ◌≢◌, ◌∙◌, inl, inr, not, ℕ, zero, suc, ◌-◌, ◌<◌, ◌≤◌, Bool, true, false, ◌||◌, eqb}
+use Rattle.std.proofs.Common.{List, [], ◌∷◌, length, Option, Some, None, is_some}
 use Rattle.std.proofs.Common.{slice_get, slice_set, slice_index_or, get_or, refl, sym, ap, subst, arith}
 use Rattle.std.proofs.lemmas.Bool.{cases_eq, eqb-true}
 use Rattle.std.proofs.lemmas.List.{length-set, get_or-set_same, get_or-set_other, get_or_read}
@@ -8,15 +8,13 @@ use Rattle.std.proofs.lemmas.Map.Steps.{length-le_from_distinct_below}
 use Rattle.std.specs.List.{IsDistinct, AllByRecursion, list_any}
 use Rattle.std.specs.Vec.{with_item}
 use Rattle.w32_base.specs.declared.call.Call.TheVariants as call
-use Rattle.w32_base.specs.declared.call.Reply.{Reply}
 use Rattle.w32_base.specs.declared.call.Reply.TheVariants as reply
 use Rattle.w32_base.specs.declared.setup.Module.{Module}
 use Rattle.script_spec.specs.declared.script.Script.{Script}
-use Rattle.win32_spec.specs.State.{PlacedModule, Process, Win32State}
+use Rattle.win32_spec.specs.State.{PlacedModule, Process}
 use Rattle.win32_spec.specs.Lookup.{process_of, is_live, change_process, with_process}
 use Rattle.win32_spec.specs.LookupLaws.{same, differs}
 use Rattle.win32_spec.specs.MemoryCalls.{program_no_by}
-use Rattle.win32_spec.specs.Named.{Gives}
 use Rattle.win32_spec.specs.Pipes.{all_holders_of}
 use Rattle.win32_spec.specs.PlaceEffects.{module_effect}
 use Rattle.win32_spec.specs.Placing.{base_in, placed_of, placed_by, and_placed, creation_of, taken_pages, Places}
@@ -34,7 +32,7 @@ use Rattle.w32_machine.specs.Running.{Running}
 use Rattle.w32_machine.specs.View.{posted_in, placed_in, view_of}
 use Rattle.w32_machine.specs.Sound.{IsSound}
 use Rattle.w32_machine.proofs.Called.{formed-effect}
-use Rattle.w32_machine.proofs.Keeping.{IsOver, sound-over}
+use Rattle.w32_machine.proofs.Keeping.{sound-over}
 use Rattle.w32_machine.proofs.Running.{read-there, program-now, stands, layer}
 use Rattle.w32_machine.proofs.Slots.{found, live}
 

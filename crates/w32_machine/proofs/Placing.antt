@@ -1,7 +1,7 @@
 -- The placed modules as the code keeps them, one after another.
-use Rattle.std.proofs.Common.{◌≡◌, ◌≢◌, ◌∙◌, ℕ, zero, suc, ◌+◌, ◌≤◌, ◌<◌, Bool, true, false, ◌&&◌, ◌||◌, nat_eq, nat_le}
-use Rattle.std.proofs.Common.{nat_lt, if◌then◌else◌, List, [], ◌∷◌, ◌++◌, length, drop, get_or, slice_get, Option, Some}
-use Rattle.std.proofs.Common.{None, refl, sym, ap, arith}
+use Rattle.std.proofs.Common.{◌≡◌, ℕ, zero, suc, ◌+◌, ◌≤◌, ◌<◌, Bool, true, false, ◌&&◌, ◌||◌, nat_eq, nat_le}
+use Rattle.std.proofs.Common.{nat_lt, if◌then◌else◌, List, [], ◌∷◌, ◌++◌, length, drop, get_or, slice_get, Some}
+use Rattle.std.proofs.Common.{None, refl, ap, arith}
 use Rattle.w32_base.specs.declared.setup.Module.{Module}
 use Rattle.win32_spec.specs.Placing.{pages_of, is_in_module, base_in}
 use Rattle.w32_machine.specs.Placed.{placed_of}

@@ -1,6 +1,6 @@
 -- A block of local instructions on the memory of the caller.
 use Rattle.std.proofs.Common.{◌≡◌, ◌∙◌, ℕ, ◌<◌, zero, suc, List, [], ◌∷◌, length, Option, Some, None, MatchOption, IsSome}
-use Rattle.std.proofs.Common.{slice_get, slice_index_or, get_or, refl, sym, ap, subst, arith}
+use Rattle.std.proofs.Common.{slice_get, get_or, refl, sym, ap, subst, arith}
 use Rattle.w32_base.specs.Part.{KeepsLengths}
 use Rattle.w32_base.specs.declared.own.Own.{Own}
 use Rattle.w32_base.specs.declared.call.Reply.TheVariants as reply
@@ -8,7 +8,6 @@ use Rattle.w32_base.specs.declared.setup.Program.{Program}
 use Rattle.vm_spec.specs.Block.{block_length, block_image}
 use Rattle.vm_spec.specs.Image.{image_of, with_image}
 use Rattle.win32_spec.specs.Lookup.{memory_by, with_own}
-use Rattle.win32_spec.specs.LookupLaws.{same_some}
 use Rattle.win32_spec.specs.MemoryCalls.{program_no_by, instructions_of, BlockStep, RunStep}
 use Rattle.win32_spec.specs.Named.{Gives}
 use Rattle.win32_spec.specs.PlaceEffects.{layer_of}

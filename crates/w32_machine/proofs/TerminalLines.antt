@@ -1,5 +1,5 @@
 -- A key of the console that the terminal takes, and the bytes of a line that a read takes from it.
-use Rattle.std.proofs.Common.{◌≡◌, ◌∙◌, ℕ, ◌≤◌, Bool, true, false, ◌&&◌, not, nat_le, List, [], ◌∷◌, length, Option}
+use Rattle.std.proofs.Common.{◌≡◌, ◌∙◌, ℕ, ◌≤◌, Bool, true, false, nat_le, List, [], ◌∷◌, length, Option}
 use Rattle.std.proofs.Common.{Some, None, is_some, Result, Ok, Err, MatchOption, MatchBool, refl, sym, ap, subst, arith}
 use Rattle.std.proofs.lemmas.Bool.Decides.{nat_tests}
 use Rattle.std.specs.Option.{IsSomeAnd}
@@ -7,14 +7,11 @@ use Rattle.std.specs.VecDeque.{deque_capacity}
 use Rattle.script_spec.specs.declared.script.Script.{Script}
 use Rattle.tty_spec.specs.Terminal.{Terminal}
 use Rattle.tty_spec.specs.Discipline.{Taken, after_key, after_take}
-use Rattle.w32_base.specs.declared.call.Region.TheVariants.{Heap}
 use Rattle.w32_base.specs.declared.call.Reply.{Reply}
 use Rattle.w32_base.specs.declared.call.Reply.TheVariants as reply
 use Rattle.w32_base.specs.declared.call.TtyOp.TheVariants as tty
 use Rattle.w32_base.specs.declared.own.Own.{Own}
 use Rattle.win32_spec.specs.State.{Win32State}
-use Rattle.win32_spec.specs.Lookup.{memory_by, object_number}
-use Rattle.win32_spec.specs.MemoryCalls.{has_range}
 use Rattle.win32_spec.specs.Named.{named_by, object_by, terminal_named, Gives}
 use Rattle.win32_spec.specs.Regions.{is_inside}
 use Rattle.win32_spec.specs.TerminalCalls.{with_terminal, signal_number, is_buffer, is_background, KeyStep, TtyStep}

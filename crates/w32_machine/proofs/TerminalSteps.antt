@@ -7,9 +7,9 @@ use Rattle.w32_base.specs.declared.call.Call.TheVariants as call
 use Rattle.w32_base.specs.declared.call.Reply.{Reply}
 use Rattle.w32_base.specs.declared.call.Reply.TheVariants as reply
 use Rattle.w32_base.specs.declared.call.TtyOp.TheVariants as tty
-use Rattle.win32_spec.specs.State.{Object, TerminalObject, Win32State}
+use Rattle.win32_spec.specs.State.{TerminalObject, Win32State}
 use Rattle.win32_spec.specs.Lookup.{object_number, with_object}
-use Rattle.win32_spec.specs.Named.{named_by, object_number_by, object_by, terminal_named, Gives}
+use Rattle.win32_spec.specs.Named.{named_by, object_by, terminal_named, Gives}
 use Rattle.win32_spec.specs.CallEffects.{object_changes}
 use Rattle.win32_spec.specs.Tame.{ObjectBecomes}
 use Rattle.win32_spec.specs.Effects.{MayExchange}

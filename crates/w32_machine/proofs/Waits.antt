@@ -9,7 +9,7 @@ use Rattle.w32_base.specs.declared.call.Reply.TheVariants as reply
 use Rattle.win32_spec.specs.Handles.{Handle, handle_of}
 use Rattle.win32_spec.specs.HandleCalls.{first_signalled, taken_object, woken_reply, TakesObject, WaitStep}
 use Rattle.win32_spec.specs.Lookup.{object_number, with_object}
-use Rattle.win32_spec.specs.Named.{handles_by, named_by, object_number_by, object_by, has_absent, Gives}
+use Rattle.win32_spec.specs.Named.{handles_by, named_by, object_number_by, has_absent, Gives}
 use Rattle.win32_spec.specs.ObjectEffects.{first_signalled-is, wait_effect}
 use Rattle.win32_spec.specs.Ready.{is_signalled, is_handle_signalled, is_some_signalled}
 use Rattle.win32_spec.specs.State.{Object, Win32State}

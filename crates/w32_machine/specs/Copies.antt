@@ -1,5 +1,5 @@
 -- Reading and writing the memory of the process in a slot.
-use Rattle.std.specs.Prelude.{◌≡◌, ℕ, Bool, true, false, ◌&&◌, nat_le, List, length, Option, Some, None, IfSome, MatchBool}
+use Rattle.std.specs.Prelude.{◌≡◌, ℕ, Bool, true, false, List, length, IfSome, MatchBool}
 use Rattle.w32_base.specs.declared.call.Region.{Region}
 use Rattle.w32_base.specs.declared.call.Reply.{Reply}
 use Rattle.w32_base.specs.declared.call.Reply.TheVariants as reply

@@ -1,4 +1,3 @@
-use Rattle.std.proofs.Common.{◌∙◌, sym, refl}
 use Rattle.w32_machine.proofs.Running.{some-there, idle-step, within-programs, data-size, run-sound, run-step}
 use Rattle.w32_machine.proofs.machine.Machine.run.Goals as goal
 

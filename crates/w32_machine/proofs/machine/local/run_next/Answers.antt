@@ -4,7 +4,7 @@ use Rattle.vm_spec.specs.BlockLaws.{block_length-zero}
 use Rattle.vm_spec.specs.Image.{Image, image_of, with_image}
 use Rattle.vm_spec.specs.Step.{LocalInstruction, block_of}
 use Rattle.w32_base.specs.declared.instr.Instr.{Instr}
-use Rattle.std.proofs.Common.{ℕ, List}
+use Rattle.std.proofs.Common.{List}
 use Rattle.proc_vm.specs.Shown.{shown}
 use Rattle.proc_vm.specs.declared.next.Next.{Next}
 use Rattle.proc_vm.specs.declared.next.Next.TheVariants as next

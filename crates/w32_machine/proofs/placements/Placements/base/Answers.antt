@@ -1,4 +1,4 @@
-use Rattle.std.proofs.Common.{◌+◌, ◌∙◌, if◌then◌else◌, drop, Some, sym, ap, arith}
+use Rattle.std.proofs.Common.{◌∙◌, sym, ap, arith}
 use Rattle.win32_spec.specs.LookupLaws.{same, differs}
 use Rattle.win32_spec.specs.Placing.{base_in}
 use Rattle.w32_machine.specs.Placed.{placed_of}

@@ -1,4 +1,4 @@
-use Rattle.std.proofs.Common.{◌≡◌, ℕ, ◌≤◌, List, Bool, length, sym, ap, subst, arith}
+use Rattle.std.proofs.Common.{ℕ, List, Bool, length, sym, ap, subst, arith}
 use Rattle.win32_spec.specs.Placing.{taken_pages}
 use Rattle.win32_spec.specs.Regions.{IsFreeRange, IsPlaceFor}
 use Rattle.w32_machine.proofs.FreePages.{free-range}

@@ -1,4 +1,4 @@
-use Rattle.std.proofs.Common.{◌<◌, length, lit<, ◌∙◌, ap, arith, sym}
+use Rattle.std.proofs.Common.{◌<◌, length, lit<, ◌∙◌, ap, arith}
 use Rattle.win32_spec.specs.Placing.{and_placed}
 use Rattle.w32_machine.specs.Placed.{placed_of}
 use Rattle.w32_machine.proofs.Placing.{length-placed, placed-push}
