@@ -29,6 +29,7 @@ mod FreePages
 mod Placing
 mod Running
 mod Copying
+mod Writing
 mod TerminalLines
 mod Numbers
 mod CallNumbers

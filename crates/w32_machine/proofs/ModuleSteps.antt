@@ -227,7 +227,8 @@ module _ (m : Inside) (sound : IsSound m) (now : Running) (shows : view_of m ≡
         placed-there : Places m.script now.win32 by.process i wanted (reply.Base base) (view_of placing).win32
         placed-there = record {
           base = base;
-          place = subst (λ xs. IsPlaceFor (taken_pages m.script (creation_of by.process) xs) wanted.base wanted.size base)
+          place = subst (λ xs. IsPlaceFor (taken_pages m.script (creation_of by.process) xs) wanted.base wanted.size
+              base)
               (here ∙ placed-now)
               (subst (λ j. IsPlaceFor (taken_pages m.script j ps) wanted.base wanted.size base) c place);
           answered = refl;

@@ -30,7 +30,8 @@ module _ (m : Inside) (sound : IsSound m) (slot v : ℕ) (stands : number_at m.p
     processes-are : (view_of owned).win32.processes ≡
         change_process v (λ p. record p { own = own }) (view_of m).win32.processes
     processes-are =
-        processes-with_own (posted_in m.posted.items) (placed_in m.placed.items) m.processes sound.table slot v stands own
+        processes-with_own (posted_in m.posted.items) (placed_in m.placed.items) m.processes sound.table slot v stands
+        own
 
     pub owned-is : (view_of owned).win32 ≡ with_own (view_of m).win32 v own
     owned-is = ap (λ (ps : List Process). record (view_of m).win32 { processes = ps }) processes-are

@@ -1,5 +1,6 @@
 -- A block of local instructions on the memory of the caller.
-use Rattle.std.proofs.Common.{◌≡◌, ◌∙◌, ℕ, ◌<◌, zero, suc, List, [], ◌∷◌, length, Option, Some, None, MatchOption, IsSome}
+use Rattle.std.proofs.Common.{◌≡◌, ◌∙◌, ℕ, ◌<◌, zero, suc, List, [], ◌∷◌, length, Option, Some, None, MatchOption}
+use Rattle.std.proofs.Common.{IsSome}
 use Rattle.std.proofs.Common.{slice_get, get_or, refl, sym, ap, subst, arith}
 use Rattle.w32_base.specs.Part.{KeepsLengths}
 use Rattle.w32_base.specs.declared.own.Own.{Own}
@@ -91,7 +92,8 @@ module _ (m : Inside) (sound : IsSound m) (now : Running) (shows : view_of m ≡
           read-is m.script.setup.programs k layer.program program layer.listed
           (subst (λ ps. program ≡ get_or ps k program) listed (subst (λ j. program ≡ get_or programs j program) at
           read)) in
-          ap (λ (r : Running). slice_get r.script.setup.programs k) (sym shows) ∙ layer.listed ∙ ap (λ p. Some p) (sym same)
+          ap (λ (r : Running). slice_get r.script.setup.programs k) (sym shows) ∙ layer.listed ∙ ap (λ p. Some p) (sym
+          same)
 
       after : (view_of (owned m sound by.slot by.process stands own)).win32 ≡ with_own now.win32 by.process own
       after =

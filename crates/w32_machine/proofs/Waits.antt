@@ -1,5 +1,6 @@
 -- A wait: the first signalled place of its list, and what becomes of the object there.
-use Rattle.std.proofs.Common.{◌≡◌, ◌≢◌, ◌∙◌, ℕ, zero, suc, ◌+◌, ◌≤◌, Bool, true, false, ◌||◌, if◌then◌else◌, not, is_some, is_none}
+use Rattle.std.proofs.Common.{◌≡◌, ◌≢◌, ◌∙◌, ℕ, zero, suc, ◌+◌, ◌≤◌, Bool, true, false, ◌||◌, if◌then◌else◌, not}
+use Rattle.std.proofs.Common.{is_some, is_none}
 use Rattle.std.proofs.Common.{List, [], ◌∷◌, length, drop, slice_get, slice_index, Option, Some, None, MatchOption}
 use Rattle.std.proofs.Common.{MatchBool, refl, sym, ap, subst, arith}
 use Rattle.std.specs.Option.{IsSomeAnd}
@@ -52,7 +53,8 @@ absent-end hs (x ∷ list) (suc k) l = absent-end hs list k (omega arith)
 
 pub first-next : (s : Win32State) (w t : ℕ) (hs : List Handle) (list : List ℕ) (k n h : ℕ) → slice_get list k ≡ Some h
     → first_signalled s w t hs (drop k list) n ≡
-    (if is_handle_signalled s w t (handle_of hs h) then Some n else first_signalled s w t hs (drop (k + 1) list) (n + 1))
+    (if is_handle_signalled s w t (handle_of hs h) then Some n else first_signalled s w t hs (drop (k + 1) list) (n +
+    1))
 first-next s w t hs [] k n h e = absurd (cc)
 first-next s w t hs (x ∷ list) zero n h e =
     let f : x ≡ h = cc in

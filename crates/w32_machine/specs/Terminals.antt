@@ -1,5 +1,6 @@
 -- What each call on the terminal does to an object.
-use Rattle.std.specs.Prelude.{◌≡◌, ℕ, Bool, ◌&&◌, not, List, Option, Some, None, Result, Ok, Err, MatchBool, MatchOption}
+use Rattle.std.specs.Prelude.{◌≡◌, ℕ, Bool, ◌&&◌, not, List, Option, Some, None, Result, Ok, Err, MatchBool}
+use Rattle.std.specs.Prelude.{MatchOption}
 use Rattle.tty_spec.specs.Terminal.{Terminal, terminal_session}
 use Rattle.tty_spec.specs.Discipline.{after_key, after_take}
 use Rattle.w32_base.specs.declared.call.Reply.{Reply}

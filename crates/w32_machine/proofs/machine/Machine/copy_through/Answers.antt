@@ -13,7 +13,8 @@ returns-then-not-read-clause-copied c =
 pub returns-then-write-clause-copied : goal.returns-then-write-clause-copied
 returns-then-write-clause-copied c =
     let size : length c.read.new.bytes ≡ c.args.count = omega arith in
-    copied-over c.args.self.now.win32 c.write.new.self.win32 c.args.from.now.slot c.args.from.now.region c.args.from.now.place
+    copied-over c.args.self.now.win32 c.write.new.self.win32 c.args.from.now.slot c.args.from.now.region
+    c.args.from.now.place
     c.args.into.now.slot c.args.into.now.region c.args.into.now.place c.args.count reply.Done
     (few-enough c.args.count c.requires.few) c.args.buffer.now c.read.new.bytes c.requires.size size
     c.if-not-read.ensures c.if-write.ensures.written refl
@@ -21,7 +22,8 @@ returns-then-write-clause-copied c =
 pub returns-else-write-clause-copied : goal.returns-else-write-clause-copied
 returns-else-write-clause-copied c =
     let size : length c.read.new.bytes ≡ c.args.count = omega arith in
-    unwritten c.args.self.now.win32 c.write.new.self.win32 c.args.from.now.slot c.args.from.now.region c.args.from.now.place
+    unwritten c.args.self.now.win32 c.write.new.self.win32 c.args.from.now.slot c.args.from.now.region
+    c.args.from.now.place
     c.args.into.now.slot c.args.into.now.region c.args.into.now.place c.args.count reply.BadRange
     (few-enough c.args.count c.requires.few) c.args.buffer.now c.read.new.bytes c.requires.size size
     c.if-not-read.ensures c.if-write.ensures.written refl

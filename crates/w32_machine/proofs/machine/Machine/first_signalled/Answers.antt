@@ -12,9 +12,11 @@ loop-place-init c = refl
 pub returns-then-is_signalled : goal.returns-then-is_signalled
 returns-then-is_signalled c = (
   c.loop-place.invariant ∙ first-next c.args.self.now.win32 c.args.by.now.process c.args.by.now.thread
-      (handles_by c.args.self.now.win32 c.args.by.now.process) c.args.list.now c.loop-place.place c.loop-place.place c.in-Some.h
+      (handles_by c.args.self.now.win32 c.args.by.now.process) c.args.list.now c.loop-place.place c.loop-place.place
+      c.in-Some.h
       (sym c.get.ensures ∙ c.in-Some.is)
-      ∙ ap (λ b. if b then Some c.loop-place.place else first_signalled c.args.self.now.win32 c.args.by.now.process c.args.by.now.thread
+      ∙ ap (λ b. if b then Some c.loop-place.place else first_signalled c.args.self.now.win32 c.args.by.now.process
+      c.args.by.now.thread
       (handles_by c.args.self.now.win32 c.args.by.now.process)
       (drop (c.loop-place.place + 1) c.args.list.now) (c.loop-place.place + 1))
       (sym c.is_signalled.ensures ∙ c.if-is_signalled.true),
@@ -26,9 +28,11 @@ loop-place-preserved c =
     elim c.match-get.branch [
       | in-Some+else-is_signalled w ↦
           c.loop-place.invariant ∙ first-next c.args.self.now.win32 c.args.by.now.process c.args.by.now.thread
-          (handles_by c.args.self.now.win32 c.args.by.now.process) c.args.list.now c.loop-place.place c.loop-place.place w.in-Some.h
+          (handles_by c.args.self.now.win32 c.args.by.now.process) c.args.list.now c.loop-place.place
+          c.loop-place.place w.in-Some.h
           (sym c.get.ensures ∙ w.in-Some.is)
-          ∙ ap (λ b. if b then Some c.loop-place.place else first_signalled c.args.self.now.win32 c.args.by.now.process c.args.by.now.thread
+          ∙ ap (λ b. if b then Some c.loop-place.place else first_signalled c.args.self.now.win32
+          c.args.by.now.process c.args.by.now.thread
           (handles_by c.args.self.now.win32 c.args.by.now.process)
           (drop (c.loop-place.place + 1) c.args.list.now) (c.loop-place.place + 1))
           (sym w.is_signalled.ensures ∙ w.if-is_signalled.false)

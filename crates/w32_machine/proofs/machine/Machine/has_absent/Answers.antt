@@ -10,7 +10,8 @@ loop-place-init c = refl
 
 pub returns-then-is_none : goal.returns-then-is_none
 returns-then-is_none c =
-    sym (c.loop-place.invariant ∙ absent-next (handles_by c.args.self.now.win32 c.args.by.now.process) c.args.list.now c.loop-place.place c.in-Some.h
+    sym (c.loop-place.invariant ∙ absent-next (handles_by c.args.self.now.win32 c.args.by.now.process) c.args.list.now
+    c.loop-place.place c.in-Some.h
     (sym c.get.ensures ∙ c.in-Some.is)
     ∙ ap (λ b. b || has_absent (handles_by c.args.self.now.win32 c.args.by.now.process)
     (drop (c.loop-place.place + 1) c.args.list.now))
@@ -21,7 +22,8 @@ pub loop-place-preserved : goal.loop-place-preserved
 loop-place-preserved c =
     elim c.match-get.branch [
       | in-Some+else-is_none w ↦
-          c.loop-place.invariant ∙ absent-next (handles_by c.args.self.now.win32 c.args.by.now.process) c.args.list.now c.loop-place.place w.in-Some.h
+          c.loop-place.invariant ∙ absent-next (handles_by c.args.self.now.win32 c.args.by.now.process)
+          c.args.list.now c.loop-place.place w.in-Some.h
           (sym c.get.ensures ∙ w.in-Some.is)
           ∙ ap (λ b. b || has_absent (handles_by c.args.self.now.win32 c.args.by.now.process)
           (drop (c.loop-place.place + 1) c.args.list.now))

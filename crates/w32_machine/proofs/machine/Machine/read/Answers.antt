@@ -1,4 +1,4 @@
-use Rattle.w32_machine.proofs.Copying.{slot-there, read-done}
+use Rattle.w32_machine.proofs.Writing.{slot-there, read-done}
 use Rattle.w32_machine.proofs.machine.Machine.read.Goals as goal
 
 pub own-requires : goal.own-requires

@@ -25,14 +25,16 @@ invariant_of-self c =
     run-sound c.self.inside c.self.invariant c.args.self.now c.self.view_is c.args.by.now c.requires c.in-Some.number
     c.program.result c.program.ensures c.in-Some.is c.as_slice.result.now c.as_slice.ensures.value c.from.result
     c.from.ensures c.index-as_slice-from.result c.index-as_slice-from.is c.own_mut.result.now c.run_next.new.own
-    c.own_mut.ensures.value c.run_next.result c.run_next.ensures.length c.run_next.ensures.image c.run_next.ensures.sizes
+    c.own_mut.ensures.value c.run_next.result c.run_next.ensures.length c.run_next.ensures.image
+    c.run_next.ensures.sizes
 
 pub returns-in-Some-clause-step : goal.returns-in-Some-clause-step
 returns-in-Some-clause-step c =
     run-step c.self.inside c.self.invariant c.args.self.now c.self.view_is c.args.by.now c.requires c.in-Some.number
     c.program.result c.program.ensures c.in-Some.is c.as_slice.result.now c.as_slice.ensures.value c.from.result
     c.from.ensures c.index-as_slice-from.result c.index-as_slice-from.is c.own_mut.result.now c.run_next.new.own
-    c.own_mut.ensures.value c.run_next.result c.run_next.ensures.length c.run_next.ensures.image c.run_next.ensures.sizes
+    c.own_mut.ensures.value c.run_next.result c.run_next.ensures.length c.run_next.ensures.image
+    c.run_next.ensures.sizes
 
 pub returns-in-None-clause-step : goal.returns-in-None-clause-step
 returns-in-None-clause-step c =

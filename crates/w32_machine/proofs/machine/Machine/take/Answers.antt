@@ -5,7 +5,8 @@ use Rattle.w32_machine.proofs.Waits.{may-take, take-done, take-sound, absent-sig
 use Rattle.w32_machine.proofs.machine.Machine.take.Goals as goal
 
 pub get_mut-requires : goal.get_mut-requires
-get_mut-requires c = some_at c.self.inside c.self.invariant c.args.self.now c.self.view_is c.args.by.now c.requires.caller c.args.h
+get_mut-requires c = some_at c.self.inside c.self.invariant c.args.self.now c.self.view_is c.args.by.now
+    c.requires.caller c.args.h
     c.in-Some.o (sym c.in-Some.is ∙ c.named.ensures)
 
 pub take-requires : goal.take-requires

@@ -3,21 +3,25 @@ use Rattle.w32_machine.specs.Running.{Running}
 use Rattle.w32_machine.specs.Terminals.{terminal_of}
 use Rattle.w32_machine.specs.View.{view_of}
 use Rattle.w32_machine.proofs.Changing.{some_at, object_is}
-use Rattle.w32_machine.proofs.TerminalLines.{same-lent, no-terminal, no-key, no-first, keys-back, press-sound, press-step}
+use Rattle.w32_machine.proofs.TerminalLines.{same-lent, no-terminal, no-key, no-first, keys-back, press-sound}
+use Rattle.w32_machine.proofs.TerminalLines.{press-step}
 use Rattle.w32_machine.proofs.machine.Machine.tty_key.Goals as goal
 
 pub get-requires : goal.get-requires
-get-requires c = some_at c.self.inside c.self.invariant c.args.self.now c.self.view_is c.args.by.now c.requires c.args.h c.in-Some.o
+get-requires c = some_at c.self.inside c.self.invariant c.args.self.now c.self.view_is c.args.by.now c.requires
+    c.args.h c.in-Some.o
     (sym c.in-Some.is ∙ c.named.ensures)
 
 pub get_mut-requires : goal.get_mut-requires
-get_mut-requires c = some_at c.self.inside c.self.invariant c.args.self.now c.self.view_is c.args.by.now c.requires c.args.h c.in-Some.o
+get_mut-requires c = some_at c.self.inside c.self.invariant c.args.self.now c.self.view_is c.args.by.now c.requires
+    c.args.h c.in-Some.o
     (sym c.in-Some.is ∙ c.named.ensures)
 
 pub returns-then-not-is_terminal-clause-step : goal.returns-then-not-is_terminal-clause-step
 returns-then-not-is_terminal-clause-step c =
     no-terminal c.args.self.now.win32 c.args.self.now.win32 c.args.by.now.process c.args.h c.get.result.now _
-    (object_is c.self.inside c.self.invariant c.args.self.now c.self.view_is c.args.by.now c.requires c.args.h c.in-Some.o
+    (object_is c.self.inside c.self.invariant c.args.self.now c.self.view_is c.args.by.now c.requires c.args.h
+    c.in-Some.o
     (sym c.in-Some.is ∙ c.named.ensures)
     c.get.result.now c.get.ensures.value) (sym c.is_terminal.ensures ∙ c.if-not-is_terminal.true) refl
 
@@ -45,8 +49,10 @@ pub returns-in-None-clause-step : goal.returns-in-None-clause-step
 returns-in-None-clause-step c =
     let none = no-first c.self.inside.keys.items (sym c.self.inside.keys.ok.0 ∙ c.in-None.ensures.cases.0) in
     no-key c.args.self.now.win32
-    (record (view_of c.self.inside).win32 { keys = c.pop_front.new.self.items }) c.args.by.now.process c.args.h c.get.result.now
-    (object_is c.self.inside c.self.invariant c.args.self.now c.self.view_is c.args.by.now c.requires c.args.h c.in-Some.o
+    (record (view_of c.self.inside).win32 { keys = c.pop_front.new.self.items }) c.args.by.now.process c.args.h
+    c.get.result.now
+    (object_is c.self.inside c.self.invariant c.args.self.now c.self.view_is c.args.by.now c.requires c.args.h
+    c.in-Some.o
     (sym c.in-Some.is ∙ c.named.ensures)
     c.get.result.now c.get.ensures.value) (sym c.is_terminal.ensures ∙ c.if-not-is_terminal.false)
     (ap (λ (r : Running). r.win32.keys) (sym c.self.view_is) ∙ none)
