@@ -1,7 +1,7 @@
 -- What `create` gives, case by case.
-use Rattle.std.proofs.Common.{◌≡◌, ◌∙◌, inl, inr, ℕ, zero, suc, ◌≤◌, ◌<◌, Bool, true, false, ◌||◌, not, is_none, List, []}
-use Rattle.std.proofs.Common.{◌∷◌, length, All, Option, Some, None, IsSome, MatchOption, slice_get, slice_index_or, refl}
-use Rattle.std.proofs.Common.{sym, ap, subst, arith, true≢false}
+use Rattle.std.proofs.Common.{◌≡◌, ◌∙◌, inl, inr, ℕ, zero, suc, ◌≤◌, ◌<◌, Bool, true, false, ◌||◌, not, is_none}
+use Rattle.std.proofs.Common.{List, [], ◌∷◌, length, All, Option, Some, None, IsSome, MatchOption, slice_get}
+use Rattle.std.proofs.Common.{slice_index_or, refl, sym, ap, subst, arith, true≢false}
 use Rattle.std.specs.Option.{is_some}
 use Rattle.std.proofs.lemmas.List.Elements.{All-nil, All-cons, All-head, All-tail}
 use Rattle.w32_base.specs.declared.call.Reply.{Reply}
@@ -75,7 +75,8 @@ pub no_slot : (A : Type 0) (B : ℕ → Type 0) (o : Option ℕ) (b : Bool) → 
 no_slot A B None b h is e = h
 no_slot A B (Some slot) b h is e = absurd (let f : true ≡ false = is ∙ ap not e in cc)
 
-module _ (script : Script) (s : Win32State) (w n : ℕ) (list : List ℕ) (hs : List Handle) (its : handles_by s w ≡ hs) where
+module _ (script : Script) (s : Win32State) (w n : ℕ) (list : List ℕ) (hs : List Handle)
+    (its : handles_by s w ≡ hs) where
   pub absent-step : has_absent hs list ≡ true → CreateStep script s w n list reply.BadHandle s
   absent-step e =
       let a : has_absent (handles_by s w) list ≡ true = ap (λ x. has_absent x list) its ∙ e in rw a (refl, refl)

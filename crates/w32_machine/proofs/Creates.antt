@@ -1,14 +1,12 @@
 -- `create` in the tables.
-use Rattle.std.proofs.Common.{◌≡◌, ◌∙◌, ℕ, ◌+◌, ◌*◌, ◌%◌, ◌≤◌, ◌<◌, true, false, List, [], length, All, Option, Some, None}
-use Rattle.std.proofs.Common.{IsSome, slice_get, slice_index_or, slice_set, refl, sym, ap, subst, arith, true≢false}
+use Rattle.std.proofs.Common.{◌≡◌, ◌∙◌, ℕ, ◌+◌, ◌%◌, ◌≤◌, ◌<◌, false, List, [], length, Option, Some, None}
+use Rattle.std.proofs.Common.{IsSome, slice_get, slice_set, sym, ap, subst, arith, true≢false}
 use Rattle.std.specs.VecDeque.{deque_capacity}
-use Rattle.w32_base.specs.declared.call.Call.{Call}
-use Rattle.w32_base.specs.declared.call.Reply.{Reply}
 use Rattle.w32_base.specs.declared.call.Reply.TheVariants as reply
 use Rattle.w32_base.specs.declared.setup.Program.{Program}
-use Rattle.win32_spec.specs.Handles.{Handle, handle_of, with_handle, listed_handles, IsLowestFree}
+use Rattle.win32_spec.specs.Handles.{Handle, with_handle, listed_handles, IsLowestFree}
 use Rattle.win32_spec.specs.State.{PlacedModule}
-use Rattle.win32_spec.specs.Lookup.{number_of, number_in, IsLowestFreeSlot, AreAllOccupied}
+use Rattle.win32_spec.specs.Lookup.{number_of, number_in, IsLowestFreeSlot}
 use Rattle.win32_spec.specs.Named.{handles_by, has_absent, is_full}
 use Rattle.win32_spec.specs.HandleLaws.{has_room}
 use Rattle.win32_spec.specs.ProcessCalls.{CreateStep}
@@ -27,14 +25,17 @@ use Rattle.w32_machine.specs.View.{shown, posted_in, placed_in, view_of}
 use Rattle.w32_machine.specs.Sound.{IsSound}
 use Rattle.w32_machine.specs.Creating.{HoldsEach, HaveRoom, opened}
 use Rattle.w32_machine.proofs.Slots.{caller-at, handles_at, is_there, number_in-at}
-use Rattle.w32_machine.proofs.CreateSteps.{none_absent, absent-step, index-step, slot-step, full-step, made-step}
-use Rattle.w32_machine.proofs.Created.{have-room, with_process, still_stands, still_handles, with_both, is-made}
-use Rattle.w32_machine.proofs.Created.{made-sound}
+use Rattle.w32_machine.proofs.CreateSteps.{made-step}
+use Rattle.w32_machine.proofs.CreateRoom.{have-room}
+use Rattle.w32_machine.proofs.Created.{with_process, still_stands, still_handles, with_both}
+use Rattle.w32_machine.proofs.Created.{whole, free, shows, made-is}
+use Rattle.w32_machine.proofs.Created.{is-made}
+use Rattle.w32_machine.proofs.CreatedSound.{made-sound}
 
-module _ (m : Inside) (sound : IsSound m) (now : Running) (shows : view_of m ≡ now) (by : Caller)
+module _ (m : Inside) (sound : IsSound m) (now : Running) (view : view_of m ≡ now) (by : Caller)
     (caller : IsCaller now.win32 by) (list : List ℕ) where
   pub at : number_at m.processes.slots by.slot ≡ Some by.process
-  at = caller-at m sound now shows by.slot by.process caller.process
+  at = caller-at m sound now view by.slot by.process caller.process
 
   pub has_process : IsSome (number_at m.processes.slots by.slot)
   has_process = is_there (number_at m.processes.slots by.slot) by.process at
@@ -42,7 +43,7 @@ module _ (m : Inside) (sound : IsSound m) (now : Running) (shows : view_of m ≡
   module _ (hs : List Handle) (its : hs ≡ (place_at m.processes.slots by.slot).handles) where
     pub handles_now : handles_by now.win32 by.process ≡ hs
     handles_now =
-        ap (λ (r : Running). handles_by r.win32 by.process) (sym shows)
+        ap (λ (r : Running). handles_by r.win32 by.process) (sym view)
         ∙ handles_at m sound by.slot by.process at ∙ sym its
 
     pub room-for : is_full (handles_by now.win32 by.process) 1 ≡ false
@@ -63,18 +64,18 @@ module _ (m : Inside) (sound : IsSound m) (now : Running) (shows : view_of m ≡
         )
 
     -- a slot that is free
-    module _ (k : ℕ) (free : IsLowestFreeSlot now.script.setup.limits.slots now.win32.processes k) where
+    module _ (k : ℕ) (open_slot : IsLowestFreeSlot now.script.setup.limits.slots now.win32.processes k) where
       within : k < length m.processes.slots
       within = omega (
         arith,
-        free.most,
+        open_slot.most,
         sound.slots,
-        ap (λ (r : Running). r.script.setup.limits.slots) shows,
+        ap (λ (r : Running). r.script.setup.limits.slots) view,
       )
 
       empty : number_at m.processes.slots k ≡ None
       empty =
-          sym (number_in-at m sound k) ∙ ap (λ (r : Running). number_in r.win32 k) shows ∙ ap number_of free.free
+          sym (number_in-at m sound k) ∙ ap (λ (r : Running). number_in r.win32 k) view ∙ ap number_of open_slot.free
 
       pub room-listed : (handles : List Handle) → handles ≡ listed_handles hs list → HaveRoom handles m.objects
       room-listed handles kept =
@@ -83,7 +84,7 @@ module _ (m : Inside) (sound : IsSound m) (now : Running) (shows : view_of m ≡
 
       pub not-all : processes.AreAllOccupied m.processes.slots → ⊥
       not-all all =
-          let some : IsSome (number_at m.processes.slots k) = all k free.from_one within in
+          let some : IsSome (number_at m.processes.slots k) = all k open_slot.from_one within in
           true≢false (sym (subst (λ (o : Option ℕ). IsSome o) empty some))
 
     -- the tables with the process
@@ -145,13 +146,30 @@ module _ (m : Inside) (sound : IsSound m) (now : Running) (shows : view_of m ≡
               added
 
           room_is : is_full (handles_by (view_of m).win32 by.process) 1 ≡ false
-          room_is = ap (λ (r : Running). is_full (handles_by r.win32 by.process) 1) shows ∙ room
+          room_is = ap (λ (r : Running). is_full (handles_by r.win32 by.process) 1) view ∙ room
+
+          lowest_is : IsLowestFree (place_at m.processes.slots by.slot).handles h
+          lowest_is = subst (λ xs. IsLowestFree xs h) same_handles lowest_h
 
           pub create-sound : IsSound m'
           create-sound =
               made-sound m sound by.slot by.process at list slot lowest number program o h m' script procs_is section
+              posts places_is (ap (λ q. deque_capacity q) keys) held holds_is held_spare added_is left_spare
+              (whole m sound by.slot by.process at list slot lowest number program o h m' script procs_is section posts
+              places_is (ap (λ q. q.items) keys) (ap (λ q. deque_capacity q) keys) held holds_is held_spare even unused
+              added_is left_spare lowest_is)
+              (free m sound by.slot by.process at list slot lowest number program o h m' script procs_is section posts
+              places_is (ap (λ q. q.items) keys) (ap (λ q. deque_capacity q) keys) held holds_is held_spare even unused
+              added_is left_spare lowest_is)
+              (shows m sound by.slot by.process at list slot lowest number program o h m' script procs_is section posts
+              places_is (ap (λ q. q.items) keys) (ap (λ q. deque_capacity q) keys) held holds_is held_spare even unused
+              added_is left_spare lowest_is)
+              (made-is m sound by.slot by.process at list slot lowest number program o h m' script procs_is section
               posts places_is (ap (λ q. q.items) keys) (ap (λ q. deque_capacity q) keys) held holds_is held_spare even
-              unused added_is left_spare (subst (λ xs. IsLowestFree xs h) same_handles lowest_h) wanted room_is
+              unused added_is left_spare lowest_is)
+              (is-made m sound by.slot by.process at list slot lowest number program o h m' script procs_is section
+              posts places_is (ap (λ q. q.items) keys) (ap (λ q. deque_capacity q) keys) held holds_is held_spare even
+              unused added_is left_spare lowest_is) wanted room_is
 
           pub create-done : has_absent hs list ≡ false
               → CreateStep now.script now.win32 by.process number list (reply.Made h v) (view_of m').win32
@@ -159,7 +177,7 @@ module _ (m : Inside) (sound : IsSound m) (now : Running) (shows : view_of m ≡
               subst (λ n. CreateStep now.script now.win32 by.process number list (reply.Made h n) (view_of m').win32)
               (sym v_is)
               (subst (λ (r : Running). CreateStep r.script r.win32 by.process number list
-              (reply.Made h m.processes.next) (view_of m').win32) shows
+              (reply.Made h m.processes.next) (view_of m').win32) view
               (made-step m.script (view_of m).win32 by.process number list hs
               (handles_at m sound by.slot by.process at ∙ sym its) there program wanted slot
               (lowest-free (posted_in m.posted.items) (placed_in m.placed.items) m.processes sound.table
@@ -168,4 +186,4 @@ module _ (m : Inside) (sound : IsSound m) (now : Running) (shows : view_of m ≡
               (reply.Made h m.processes.next) (view_of m').win32
               (is-made m sound by.slot by.process at list slot lowest number program o h m' script procs_is section
               posts places_is (ap (λ q. q.items) keys) (ap (λ q. deque_capacity q) keys) held holds_is held_spare even
-              unused added_is left_spare (subst (λ xs. IsLowestFree xs h) same_handles lowest_h))))
+              unused added_is left_spare lowest_is)))

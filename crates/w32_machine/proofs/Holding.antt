@@ -1,5 +1,5 @@
 -- Each handle of a new process is a holder more of its object.
-use Rattle.std.proofs.Common.{◌≡◌, ◌≢◌, ◌∙◌, inl, inr, ℕ, ◌+◌, ◌*◌, ◌/◌, ◌%◌, ◌≤◌, ◌<◌, nat_eq, if◌then◌else◌, List, Option}
+use Rattle.std.proofs.Common.{◌≡◌, ◌∙◌, inl, inr, ℕ, ◌+◌, ◌*◌, ◌/◌, ◌%◌, ◌≤◌, ◌<◌, nat_eq, if◌then◌else◌, List, Option}
 use Rattle.std.proofs.Common.{Some, None, IsSome, slice_index_or, refl, sym, ap, subst, arith}
 use Rattle.std.specs.Option.{IsSomeAnd}
 use Rattle.std.proofs.lemmas.Bool.{cases_eq}
@@ -45,7 +45,9 @@ kind-more names a b (kind.Terminal terminal) = refl
 
 -- as many of its handles as stand on both ends
 one_named : (names : ℕ)
-    → (if nat_eq names (object_number names) then 1 else 0) + (if nat_eq names (object_number names + 1) then 1 else 0) ≡ 1
+    → (if nat_eq names (object_number names) then 1 else 0)
+    + (if nat_eq names (object_number names + 1) then 1 else 0) ≡
+    1
 one_named names =
     elim (cases_eq (names % 2) 0) [
       | inl e ↦

@@ -47,6 +47,8 @@ mod HandlesRoom
 mod Holding
 mod FreeSlot
 mod CreateSteps
+mod CreateRoom
 mod Created
+mod CreatedSound
 mod Creates
 mod DrivenSteps
