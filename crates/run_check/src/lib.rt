@@ -1,0 +1,6 @@
+//! Whether a list of events is a run of the POSIX machine.
+#![tactic(auto)]
+
+pub mod verdict;
+
+pub use verdict::{MOST_EVENTS, Verdict, check};
