@@ -6,3 +6,7 @@ mod Groups
 mod Shown
 mod Outputs
 mod Views
+mod ReadWords
+mod ReadEvents
+mod ReadLines
+mod ReadLogs

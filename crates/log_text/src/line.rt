@@ -82,6 +82,13 @@ impl Line {
         self.push_text(Buffer::new().format(number.get()).as_bytes());
     }
 
+    /// The bytes.
+    pub fn as_slice(&self) -> &[u8]
+        ensures { result.now ≡ self.now }
+    {
+        self.bytes.as_slice()
+    }
+
     /// Writes the line with its end, and takes all bytes away.
     pub fn write_to<K: Sink>(&mut self, sink: &mut K) -> Result<(), WriteFailed>
         ensures cleared { self.new ≡ [] }

@@ -26,7 +26,7 @@ const ALL: &[u8] = b"log all\n\
     done budget\n";
 
 /// Its log in view `events`.
-const EVENTS: &[u8] =
+pub const EVENTS: &[u8] =
     b"log events\nkey 0 0a\nline 3 1 0a\nwrite 3 1 61\nrun 2 2\ndie 2 0 exit\ndone given\n";
 
 /// Its log in view `calls`, and how many pieces it goes out in: the terminal's line in four.
@@ -36,7 +36,7 @@ const CALLS: &[u8] =
 /// How many pieces the log in view `calls` goes out in: each line is one, but for the terminal's, which is four.
 const PIECES: u32 = 10;
 
-fn number(value: u32) -> Number {
+pub fn number(value: u32) -> Number {
     Number::unsigned(value)
 }
 
@@ -67,7 +67,7 @@ fn bytes(text: &[u8]) -> Bytes64 {
 }
 
 /// A key is typed, taken and echoed; the line is read by process 3, which writes a byte; process 2 dies.
-fn journal() -> [Entry; 8] {
+pub fn journal() -> [Entry; 8] {
     let tty = HandleNo::new(3);
     let group = Pid::new(2);
     let key = Entry {
@@ -120,7 +120,7 @@ fn journal() -> [Entry; 8] {
 }
 
 /// A script of one program that asks for its number.
-fn script(alloc: Global) -> Result<Script, Fail> {
+pub fn script(alloc: Global) -> Result<Script, Fail> {
     let program = Program {
         name: Name::try_new(b"main").ok_or("name")?,
         heap: 0,
@@ -143,7 +143,7 @@ fn script(alloc: Global) -> Result<Script, Fail> {
 }
 
 /// A log in memory, where the calls of these numbers fail.
-fn log_of(
+pub fn log_of(
     alloc: Global,
     entries: &[Entry],
     end: End,
@@ -185,7 +185,7 @@ fn an_empty_journal_has_a_log(rt: HostRuntime) -> Result<(), Fail> {
 }
 
 /// Entries with long calls and events.
-fn long_journal() -> Result<[Entry; 4], Fail> {
+pub fn long_journal() -> Result<[Entry; 4], Fail> {
     let last = process(4001);
     let low = Number::signed(i32::MIN);
     let high = number(u32::MAX);
