@@ -1,11 +1,10 @@
 //! A machine whose threads are driven by parts.
 
-ghost use Rattle.std.specs.Prelude.{◌≡◌, ◌+◌, ◌*◌, ◌<◌, ◌≤◌, ℕ, Some, None, length, IfOk, IsSome, true};
+ghost use Rattle.std.specs.Prelude.{◌≡◌, ◌<◌, ◌≤◌, None, length, IsSome, true};
 ghost use Rattle.w32_base.specs.declared.entry.Directive.TheVariants as directive;
 ghost use Rattle.w32_base.specs.declared.entry.Outcome.TheVariants as outcome;
-ghost use Rattle.script_spec.specs.declared.script.Script.{Script};
 ghost use Rattle.win32_spec.specs.Call.{CallStep};
-ghost use Rattle.win32_spec.specs.Driven.{part_at, DrivenBy, IsDrivenOpening, AllFollow, OpensPart};
+ghost use Rattle.win32_spec.specs.Driven.{part_at, DrivenBy, AllFollow};
 ghost use Rattle.win32_spec.specs.Lookup.{thread_at};
 ghost use Rattle.win32_spec.specs.Named.{handles_by};
 ghost use Rattle.win32_spec.specs.Ready.{may_go};
@@ -13,18 +12,17 @@ ghost use Rattle.win32_spec.specs.Run.{StepBy};
 ghost use Rattle.win32_spec.specs.WellFormed.{IsWellFormed};
 ghost use Rattle.w32_machine.specs.Contract.{IsCaller, key_lines};
 ghost use Rattle.w32_machine.specs.DrivenTurns.{called_by, came_by, event_by, DoneBy};
-ghost use Rattle.w32_machine.specs.Driving.{IsServing, SlotFollows, OpensSlot, GoesOn, OtherSlotsStay};
-ghost use Rattle.w32_machine.specs.Driving.{IsCreate, EndsOnlyIn, HasFewThreads};
+ghost use Rattle.w32_machine.specs.Driving.{IsServing, GoesOn, IsCreate, EndsOnlyIn};
 ghost use Rattle.w32_machine.specs.Ending.{outcome_of_end};
 ghost use Rattle.w32_machine.specs.Turning.{IsNextCall};
 
 use crate::caller::Caller;
+use crate::driven::parts::{follow, place};
 use crate::machine::Machine;
 use std::marker::Model;
 use w32_base::{Call, Event, Reply, Slot, ThreadNo, Whole, WinNo};
 
-/// How many threads there may be: three in each of 65 slots.
-const THREADS: usize = 195;
+mod parts;
 
 /// What a turn of a thread came to.
 #[derive(Clone, Copy, Debug, PartialEq, Eq)]
@@ -272,55 +270,4 @@ fn go_on<P: Whole + Drop>(
         Some(part) => machine.go_on(by, part, reply),
         None => None,
     }
-}
-
-// Where a slot has another process than before, or none any more, its parts are opened, or go.
-fn follow<P: Whole + Drop>(
-    machine: &Machine,
-    parts: &mut Vec<Option<P>>,
-    slot: Slot,
-    before: Option<WinNo>,
-)
-    requires { length parts.old.items ≡ 195 }
-    ensures here { SlotFollows P.posted_of P.goes P.opening P.slot_of P.thread_of before machine.now.win32
-        parts.old.items parts.new.items slot }
-    ensures others { OtherSlotsStay parts.old.items parts.new.items slot }
-    ensures places { length parts.new.items ≡ 195 }
-{
-    if before != machine.in_slot(slot) {
-        open_slot(machine, parts, slot);
-    }
-}
-
-// Opens a part for each thread of a slot.
-fn open_slot<P: Whole + Drop>(machine: &Machine, parts: &mut Vec<Option<P>>, slot: Slot)
-    requires { length parts.old.items ≡ 195 }
-    ensures here { OpensSlot P.posted_of P.goes P.opening P.slot_of P.thread_of machine.now.win32 parts.new.items slot }
-    ensures others { OtherSlotsStay parts.old.items parts.new.items slot }
-    ensures places { length parts.new.items ≡ 195 }
-{
-    parts[place(slot, ThreadNo::new(0))] = part_of(machine, slot, ThreadNo::new(0));
-    parts[place(slot, ThreadNo::new(1))] = part_of(machine, slot, ThreadNo::new(1));
-    parts[place(slot, ThreadNo::new(2))] = part_of(machine, slot, ThreadNo::new(2));
-}
-
-// The part of a thread that was just made, or none where there is no thread.
-fn part_of<P: Whole + Drop>(machine: &Machine, slot: Slot, thread: ThreadNo) -> Option<P>
-    ensures opened { OpensPart P.posted_of P.goes P.opening P.slot_of P.thread_of
-        (thread_at machine.now.win32 slot thread) slot thread result }
-    ensures few { HasFewThreads machine.now.win32 }
-{
-    if machine.has_thread(slot, thread) {
-        Some(P::open(slot, thread))
-    } else {
-        None
-    }
-}
-
-// The place of a thread's part.
-fn place(slot: Slot, thread: ThreadNo) -> usize
-    ensures value { result ≡ 3 * slot + thread }
-    ensures within { result < 195 }
-{
-    3 * usize::from(slot.get()) + usize::from(thread.get())
 }

@@ -2,7 +2,7 @@ use Rattle.std.proofs.Common.{◌+◌, ◌*◌, ◌<◌, ◌≡◌, subst, arith
 use Rattle.win32_spec.specs.Driven.{OpensPart}
 use Rattle.win32_spec.specs.Lookup.{thread_at}
 use Rattle.w32_machine.proofs.Places.{three_set, set_first, set_second, set_third, set_aside, opens-slot}
-use Rattle.w32_machine.proofs.driven.open_slot.Goals as goal
+use Rattle.w32_machine.proofs.driven.parts.open_slot.Goals as goal
 
 pub returns-clause-here : goal.returns-clause-here
 returns-clause-here g c =

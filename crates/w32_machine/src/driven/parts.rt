@@ -1,0 +1,60 @@
+//! The parts of the threads of a slot.
+
+ghost use Rattle.std.specs.Prelude.{◌≡◌, ◌+◌, ◌*◌, ◌<◌, ℕ, length};
+ghost use Rattle.win32_spec.specs.Driven.{OpensPart};
+ghost use Rattle.win32_spec.specs.Lookup.{thread_at};
+ghost use Rattle.w32_machine.specs.Driving.{SlotFollows, OpensSlot, OtherSlotsStay, HasFewThreads};
+
+use crate::machine::Machine;
+use w32_base::{Slot, ThreadNo, Whole, WinNo};
+
+// Where a slot has another process than before, or none any more, its parts are opened, or go.
+pub(super) fn follow<P: Whole + Drop>(
+    machine: &Machine,
+    parts: &mut Vec<Option<P>>,
+    slot: Slot,
+    before: Option<WinNo>,
+)
+    requires { length parts.old.items ≡ 195 }
+    ensures here { SlotFollows P.posted_of P.goes P.opening P.slot_of P.thread_of before machine.now.win32
+        parts.old.items parts.new.items slot }
+    ensures others { OtherSlotsStay parts.old.items parts.new.items slot }
+    ensures places { length parts.new.items ≡ 195 }
+{
+    if before != machine.in_slot(slot) {
+        open_slot(machine, parts, slot);
+    }
+}
+
+// Opens a part for each thread of a slot.
+fn open_slot<P: Whole + Drop>(machine: &Machine, parts: &mut Vec<Option<P>>, slot: Slot)
+    requires { length parts.old.items ≡ 195 }
+    ensures here { OpensSlot P.posted_of P.goes P.opening P.slot_of P.thread_of machine.now.win32 parts.new.items slot }
+    ensures others { OtherSlotsStay parts.old.items parts.new.items slot }
+    ensures places { length parts.new.items ≡ 195 }
+{
+    parts[place(slot, ThreadNo::new(0))] = part_of(machine, slot, ThreadNo::new(0));
+    parts[place(slot, ThreadNo::new(1))] = part_of(machine, slot, ThreadNo::new(1));
+    parts[place(slot, ThreadNo::new(2))] = part_of(machine, slot, ThreadNo::new(2));
+}
+
+// The part of a thread that was just made, or none where there is no thread.
+fn part_of<P: Whole + Drop>(machine: &Machine, slot: Slot, thread: ThreadNo) -> Option<P>
+    ensures opened { OpensPart P.posted_of P.goes P.opening P.slot_of P.thread_of
+        (thread_at machine.now.win32 slot thread) slot thread result }
+    ensures few { HasFewThreads machine.now.win32 }
+{
+    if machine.has_thread(slot, thread) {
+        Some(P::open(slot, thread))
+    } else {
+        None
+    }
+}
+
+// The place of a thread's part.
+pub(super) fn place(slot: Slot, thread: ThreadNo) -> usize
+    ensures value { result ≡ 3 * slot + thread }
+    ensures within { result < 195 }
+{
+    3 * usize::from(slot.get()) + usize::from(thread.get())
+}
