@@ -1,4 +1,4 @@
-//! The program: it reads a script on standard input and writes its log on standard output.
+//! The program: it reads a script on standard input and writes its log on standard output, or makes a script.
 #![tactic(auto)]
 
 use clap::{Arg, ArgAction, Command};
@@ -66,9 +66,16 @@ fn usage(alloc: Global) -> Result<String, AllocError> {
     let run = Command::new(alloc, "run")
         .about("reads a script on standard input and writes its log, by process")
         .arg(view)?;
+    let forks = Arg::new(alloc, "N")
+        .required(true)
+        .action(ArgAction::Set);
+    let make = Command::new(alloc, "make")
+        .about("writes the script of N forks, 1 to 500")
+        .arg(forks)?;
     let mut command = Command::new(alloc, "cyg")
         .about("runs process programs on a modelled Win32")
-        .after_help("The words are `run calls`.")
-        .subcommand(run)?;
+        .after_help("The words are `run calls`, or `make N` with N from 1 to 500.")
+        .subcommand(run)?
+        .subcommand(make)?;
     command.render_help()
 }

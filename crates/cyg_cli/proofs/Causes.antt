@@ -1,13 +1,20 @@
 -- What is run is a script, and what a run answers is its journal.
-use Rattle.std.proofs.Common.{◌≡◌, ◌≢◌, ◌<◌, ◌≤◌, ℕ, Bool, true, false, refl, sym, subst, List, [], Option, Some, None, arith, inl, inr, ◌⊎◌}
-use Rattle.std.specs.Prelude.{IfSome, nat_le}
+use Rattle.std.proofs.Common.{◌≡◌, ◌≢◌, ◌<◌, ◌≤◌, ℕ, Bool, true, false, refl, sym, ◌∙◌, ap, subst, List, [], ◌∷◌, Option, Some, None, arith, inl, inr, ◌⊎◌}
+use Rattle.std.specs.Prelude.{IfSome, nat_le, codes}
 use Rattle.std.proofs.lemmas.Bool.{leb-true, leb-false}
+use Rattle.std.proofs.lemmas.Fmt.{decimal_injective}
 use Rattle.w32_base.specs.declared.entry.Entry.{Entry}
 use Rattle.w32_base.specs.declared.entry.End.{End}
 use Rattle.w32_base.specs.declared.entry.End.TheVariants.{Quiet, Given, Budget}
 use Rattle.w32_base.specs.declared.instr.Instr.{Instr}
 use Rattle.cyg_io.specs.Counts.{Rose}
-use Rattle.cyg_cli.specs.Top.{Outside, Ends, OtherWords, ReadFault, NoMemory, Refused, RefusedInPart, Logged, LoggedInPart, Runs, IsUnbuilt, IsScriptOf, IsJournalOf, IsRunOrShort, enough_turns, run_calls}
+use Rattle.cyg_cli.specs.Top.{Outside, Ends, OtherWords, ReadFault, NoMemory, Refused, RefusedInPart, Logged, LoggedInPart, Runs, IsUnbuilt, IsScriptOf, IsJournalOf, IsRunOrShort, enough_turns, status_of}
+use Rattle.cyg_cli.specs.Top.{Made, MadeInPart, NotMade, IsUntouched}
+use Rattle.cyg_cli.specs.TopParts.{IsMaking}
+use Rattle.world_gen.specs.Forks.{IsForking}
+use Rattle.cyg_cli.specs.declared.commands.Command.{Command}
+use Rattle.cyg_cli.specs.declared.commands.Command.TheVariants.{RunCalls, Make}
+use Rattle.cyg_cli.specs.Commands.{Asks, IsNoCommand}
 
 abbrev IsNotRun : ℕ → List ℕ → Type 0
 IsNotRun status text = IsUnbuilt text → (status ≢ 0) × (status ≢ 6)
@@ -21,15 +28,41 @@ script_run : (status : ℕ) (left : Option (List ℕ)) (budget : ℕ) (code : Li
 script_run status None budget code h = tt
 script_run status (Some left) budget code h = λ unbuilt. ((λ _. unbuilt budget code h.form), (λ _. unbuilt budget code h.form))
 
+abbrev first_word : List (List ℕ) → List ℕ
+first_word [] = []
+first_word (word ∷ rest) = word
+
+run_is_not_make : codes "run" ≡ codes "make" → ⊥
+run_is_not_make e = cc
+
+-- the words are one command's
+pub run_no_make : (words : List (List ℕ)) (n : ℕ) → Asks words RunCalls → Asks words (Make n) → ⊥
+run_no_make words n r m = run_is_not_make (ap first_word (sym r.spelled ∙ m.spelled))
+
+no_command : (words : List (List ℕ)) (command : Command) → IsNoCommand words → Asks words command → ⊥
+no_command words command none asks = none command asks.range asks.spelled
+
+abbrev second_word : List (List ℕ) → List ℕ
+second_word [] = []
+second_word (first ∷ []) = []
+second_word (first ∷ (second ∷ rest)) = second
+
+same_make : (words : List (List ℕ)) (m n : ℕ) → Asks words (Make m) → Asks words (Make n) → m ≡ n
+same_make words m n a b =
+    decimal_injective m n (omega (arith, a.range.1)) (omega (arith, b.range.1)) (ap second_word (sym a.spelled ∙ b.spelled))
+
 pub only_scripts : (words : List (List ℕ)) (before after : Outside) (status : ℕ) (entries : List Entry) → Ends words before after status entries
-    → IfSome before.left (λ text. IsUnbuilt text → (status ≢ 0) × (status ≢ 6))
-only_scripts words before after status entries (OtherWords w same s none) = other_status before.left status (λ t. omega (arith, t, s)) (λ t. omega (arith, t, s))
-only_scripts words before after status entries (ReadFault w rose same s none) = other_status before.left status (λ t. omega (arith, t, s)) (λ t. omega (arith, t, s))
-only_scripts words before after status entries (NoMemory w same s none) = other_status before.left status (λ t. omega (arith, t, s)) (λ t. omega (arith, t, s))
-only_scripts words before after status entries (Refused w r app s none) = other_status before.left status (λ t. omega (arith, t, s)) (λ t. omega (arith, t, s))
-only_scripts words before after status entries (RefusedInPart w r app rose s none) = other_status before.left status (λ t. omega (arith, t, s)) (λ t. omega (arith, t, s))
-only_scripts words before after status entries (Logged end w r app s) = script_run status before.left r.budget r.code r.text
-only_scripts words before after status entries (LoggedInPart end w r app rose s) = other_status before.left status (λ t. omega (arith, t, s)) (λ t. omega (arith, t, s))
+    → Asks words RunCalls → IfSome before.left (λ text. IsUnbuilt text → (status ≢ 0) × (status ≢ 6))
+only_scripts words before after status entries (OtherWords w same s none) is = other_status before.left status (λ t. omega (arith, t, s)) (λ t. omega (arith, t, s))
+only_scripts words before after status entries (ReadFault w rose same s none) is = other_status before.left status (λ t. omega (arith, t, s)) (λ t. omega (arith, t, s))
+only_scripts words before after status entries (NoMemory w same s none) is = other_status before.left status (λ t. omega (arith, t, s)) (λ t. omega (arith, t, s))
+only_scripts words before after status entries (Refused w r app s none) is = other_status before.left status (λ t. omega (arith, t, s)) (λ t. omega (arith, t, s))
+only_scripts words before after status entries (RefusedInPart w r app rose s none) is = other_status before.left status (λ t. omega (arith, t, s)) (λ t. omega (arith, t, s))
+only_scripts words before after status entries (Logged end w r app s) is = script_run status before.left r.budget r.code r.text
+only_scripts words before after status entries (LoggedInPart end w r app rose s) is = other_status before.left status (λ t. omega (arith, t, s)) (λ t. omega (arith, t, s))
+only_scripts words before after status entries (Made n script w forks same app s none) is = absurd (run_no_make words n is w)
+only_scripts words before after status entries (MadeInPart n script w forks same app rose s none) is = absurd (run_no_make words n is w)
+only_scripts words before after status entries (NotMade n w same s none) is = absurd (run_no_make words n is w)
 
 -- what a run answers is the journal of a script
 journal_of : (before after : Outside) (entries : List Entry) (end : End) → Runs before after entries end → IsJournalOf before.left entries
@@ -43,6 +76,9 @@ journal_told words before after status entries (ReadFault w rose same s none) so
 journal_told words before after status entries (NoMemory w same s none) some = absurd (some none)
 journal_told words before after status entries (Refused w r app s none) some = absurd (some none)
 journal_told words before after status entries (RefusedInPart w r app rose s none) some = absurd (some none)
+journal_told words before after status entries (Made n script w forks same app s none) some = absurd (some none)
+journal_told words before after status entries (MadeInPart n script w forks same app rose s none) some = absurd (some none)
+journal_told words before after status entries (NotMade n w same s none) some = absurd (some none)
 journal_told words before after status entries (Logged end w r app s) some = journal_of before after entries end r
 journal_told words before after status entries (LoggedInPart end w r app rose s) some = journal_of before after entries end r
 
@@ -73,9 +109,9 @@ short_of_budget (Some text) status budget code s script few = λ b c h.
     inr (inl (s, subst (λ n. n < enough_turns c) (sym is.0) (subst (λ x. budget < enough_turns x) (sym is.1) few)))
 
 pub complete_told : (words : List (List ℕ)) (before after : Outside) (status : ℕ) (entries : List Entry) → Ends words before after status entries
-    → words ≡ run_calls → ¬ Rose before.read_faults after.read_faults → ¬ Rose before.write_faults after.write_faults
+    → Asks words RunCalls → ¬ Rose before.read_faults after.read_faults → ¬ Rose before.write_faults after.write_faults
     → IfSome before.left (IsRunOrShort status)
-complete_told words before after status entries (OtherWords w same s none) is read write = absurd (w is)
+complete_told words before after status entries (OtherWords w same s none) is read write = absurd (no_command words RunCalls w is)
 complete_told words before after status entries (ReadFault w rose same s none) is read write = absurd (read rose)
 complete_told words before after status entries (NoMemory w same s none) is read write = run_or_short before.left status (inr s)
 complete_told words before after status entries (Refused w r app s none) is read write = refused_script before.left status r.text
@@ -85,3 +121,48 @@ complete_told words before after status entries (Logged Given w r app s) is read
 complete_told words before after status entries (Logged Budget w r app s) is read write =
     short_of_budget before.left status r.budget r.code s r.text (too_few r.budget r.code r.ends_quiet)
 complete_told words before after status entries (LoggedInPart end w r app rose s) is read write = absurd (write rose)
+complete_told words before after status entries (Made n script w forks same app s none) is read write = absurd (run_no_make words n is w)
+complete_told words before after status entries (MadeInPart n script w forks same app rose s none) is read write = absurd (run_no_make words n is w)
+complete_told words before after status entries (NotMade n w same s none) is read write = absurd (run_no_make words n is w)
+
+-- what a `make` comes to
+abbrev MakesOf : ℕ → Outside → Outside → ℕ → List Entry → Type 0
+MakesOf n before after status entries = IsMaking n before.held after.held before.write_faults after.write_faults status entries × IsUntouched before after
+
+as_before : (before after : Outside) → after ≡ before → IsUntouched before after
+as_before before after e = rw e (record { left = refl; read_faults = refl; given = refl; ends = refl })
+
+pub made_told : (words : List (List ℕ)) (before after : Outside) (status : ℕ) (entries : List Entry) → Ends words before after status entries
+    → (n : ℕ) → Asks words (Make n) → MakesOf n before after status entries
+made_told words before after status entries (OtherWords w same s none) n is = absurd (no_command words (Make n) w is)
+made_told words before after status entries (ReadFault w rose same s none) n is = absurd (run_no_make words n w is)
+made_told words before after status entries (NoMemory w same s none) n is = absurd (run_no_make words n w is)
+made_told words before after status entries (Refused w r app s none) n is = absurd (run_no_make words n w is)
+made_told words before after status entries (RefusedInPart w r app rose s none) n is = absurd (run_no_make words n w is)
+made_told words before after status entries (Logged end w r app s) n is = absurd (run_no_make words n w is)
+made_told words before after status entries (LoggedInPart end w r app rose s) n is = absurd (run_no_make words n w is)
+made_told words before after status entries (Made m script w forks same app s none) n is =
+    (inl (script, subst (λ k. IsForking k script) (same_make words m n w is) forks, s, app, none), same)
+made_told words before after status entries (MadeInPart m script w forks same app rose s none) n is =
+    (inr (inl (script, subst (λ k. IsForking k script) (same_make words m n w is) forks, s, app, rose, none)), same)
+made_told words before after status entries (NotMade m w same s none) n is =
+    (inr (inr (s, ap (λ o. o.held) same, ap (λ o. o.write_faults) same, none)), as_before before after same)
+
+not_two : (end : End) → status_of end ≡ 2 → ⊥
+not_two Quiet e = cc
+not_two Given e = cc
+not_two Budget e = cc
+
+-- 2 is the answer exactly where the words are no command's
+pub other_told : (words : List (List ℕ)) (before after : Outside) (status : ℕ) (entries : List Entry) → Ends words before after status entries
+    → (status ≡ 2 → IsNoCommand words) × (IsNoCommand words → status ≡ 2)
+other_told words before after status entries (OtherWords w same s none) = ((λ t. w), (λ no. s))
+other_told words before after status entries (ReadFault w rose same s none) = ((λ t. absurd (omega (arith, t, s))), (λ no. absurd (no_command words RunCalls no w)))
+other_told words before after status entries (NoMemory w same s none) = ((λ t. absurd (omega (arith, t, s))), (λ no. absurd (no_command words RunCalls no w)))
+other_told words before after status entries (Refused w r app s none) = ((λ t. absurd (omega (arith, t, s))), (λ no. absurd (no_command words RunCalls no w)))
+other_told words before after status entries (RefusedInPart w r app rose s none) = ((λ t. absurd (omega (arith, t, s))), (λ no. absurd (no_command words RunCalls no w)))
+other_told words before after status entries (Logged end w r app s) = ((λ t. absurd (not_two end (sym s ∙ t))), (λ no. absurd (no_command words RunCalls no w)))
+other_told words before after status entries (LoggedInPart end w r app rose s) = ((λ t. absurd (omega (arith, t, s))), (λ no. absurd (no_command words RunCalls no w)))
+other_told words before after status entries (Made n script w forks same app s none) = ((λ t. absurd (omega (arith, t, s))), (λ no. absurd (no_command words (Make n) no w)))
+other_told words before after status entries (MadeInPart n script w forks same app rose s none) = ((λ t. absurd (omega (arith, t, s))), (λ no. absurd (no_command words (Make n) no w)))
+other_told words before after status entries (NotMade n w same s none) = ((λ t. absurd (omega (arith, t, s))), (λ no. absurd (no_command words (Make n) no w)))

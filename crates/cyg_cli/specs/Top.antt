@@ -1,11 +1,14 @@
 -- How the top call ends.
-use Rattle.std.specs.Prelude.{◌≡◌, ◌≢◌, ℕ, ◌+◌, ◌*◌, ◌<◌, ◌≤◌, ◌⊎◌, true, List, [], ◌∷◌, ◌++◌, length, Option, IfSome, codes}
+use Rattle.std.specs.Prelude.{◌≡◌, ℕ, ◌+◌, ◌*◌, ◌<◌, ◌≤◌, ◌⊎◌, true, List, [], ◌∷◌, ◌++◌, length, Option, IfSome, codes}
 use Rattle.std.specs.Io.KnownBytes.{Appends}
 use Rattle.w32_base.specs.declared.entry.Entry.{Entry}
 use Rattle.w32_base.specs.declared.entry.End.{End}
 use Rattle.w32_base.specs.declared.entry.End.TheVariants.{Quiet, Given, Budget}
 use Rattle.w32_base.specs.declared.instr.Instr.{Instr}
 use Rattle.w32_base.specs.declared.setup.Setup.{Setup}
+use Rattle.script_spec.specs.declared.script.Script.{Script}
+use Rattle.script_spec.specs.Print.{print_of}
+use Rattle.world_gen.specs.Forks.{IsForking}
 use Rattle.cyg_io.specs.Counts.{Rose, RoseBy}
 use Rattle.cyg_io.specs.Sink.{AppendsPart}
 use Rattle.first_form.specs.OneProgram.{IsOneProgram}
@@ -13,6 +16,8 @@ use Rattle.first_posix_spec.specs.State.{PosixState}
 use Rattle.first_layer_spec.specs.FirstForm.{IsFirstForm}
 use Rattle.first_layer_spec.specs.LogText.{calls_log}
 use Rattle.first_layer_spec.specs.Headline.{Headline}
+use Rattle.cyg_cli.specs.declared.commands.Command.TheVariants.{RunCalls, Make}
+use Rattle.cyg_cli.specs.Commands.{Asks, IsNoCommand}
 use Rattle.cyg_cli.specs.RunOf.{IsRunOf}
 
 -- what a source and a sink tell: the bytes left and the bytes held, where they tell them, and their counts
@@ -23,10 +28,6 @@ pub record Outside : Type 0 where
   pub ends : ℕ
   pub held : Option (List ℕ)
   pub write_faults : ℕ
-
--- the words that are accepted
-abbrev pub run_calls : List (List ℕ)
-run_calls = codes "run" ∷ codes "calls" ∷ []
 
 -- the line that refuses a text
 abbrev pub refusal : List ℕ
@@ -80,24 +81,39 @@ pub record Runs (before after : Outside) (entries : List Entry) (end : End) : Ty
   pub settled : end ≡ Quiet → IsSettled headline.posix_last
   pub ends_quiet : enough_turns code ≤ budget → end ≡ Quiet
 
+-- the source is as it was
+pub record IsUntouched (before after : Outside) : Type 0 where
+  pub left : after.left ≡ before.left
+  pub read_faults : after.read_faults ≡ before.read_faults
+  pub given : after.given ≡ before.given
+  pub ends : after.ends ≡ before.ends
+
 -- The ways in which the top call ends, with its status and its journal.
 pub data Ends (words : List (List ℕ)) (before after : Outside) (status : ℕ) (entries : List Entry) : Type 0 where
   -- the words aren't accepted, and nothing is read or written
-  OtherWords : words ≢ run_calls → after ≡ before → status ≡ 2 → entries ≡ [] → Ends words before after status entries
+  OtherWords : IsNoCommand words → after ≡ before → status ≡ 2 → entries ≡ [] → Ends words before after status entries
   -- the source had a fault, and nothing is written
-  ReadFault : words ≡ run_calls → Rose before.read_faults after.read_faults → after.held ≡ before.held → status ≡ 4 → entries ≡ [] → Ends words before after status entries
+  ReadFault : Asks words RunCalls → Rose before.read_faults after.read_faults → after.held ≡ before.held → status ≡ 4 → entries ≡ [] → Ends words before after status entries
   -- memory ran out before the first directive, and nothing is written
-  NoMemory : words ≡ run_calls → after.held ≡ before.held → status ≡ 7 → entries ≡ [] → Ends words before after status entries
+  NoMemory : Asks words RunCalls → after.held ≡ before.held → status ≡ 7 → entries ≡ [] → Ends words before after status entries
   -- the refusal was written
-  Refused : words ≡ run_calls → Refuses before after → Appends before.held after.held refusal → status ≡ 3 → entries ≡ [] → Ends words before after status entries
+  Refused : Asks words RunCalls → Refuses before after → Appends before.held after.held refusal → status ≡ 3 → entries ≡ [] → Ends words before after status entries
   -- the sink had a fault in the refusal
-  RefusedInPart : words ≡ run_calls → Refuses before after → AppendsPart before.held after.held refusal → Rose before.write_faults after.write_faults
+  RefusedInPart : Asks words RunCalls → Refuses before after → AppendsPart before.held after.held refusal → Rose before.write_faults after.write_faults
       → status ≡ 5 → entries ≡ [] → Ends words before after status entries
   -- the log was written
-  Logged : (end : End) → words ≡ run_calls → Runs before after entries end → Appends before.held after.held (calls_log entries end) → status ≡ status_of end → Ends words before after status entries
+  Logged : (end : End) → Asks words RunCalls → Runs before after entries end → Appends before.held after.held (calls_log entries end) → status ≡ status_of end → Ends words before after status entries
   -- the sink had a fault in the log
-  LoggedInPart : (end : End) → words ≡ run_calls → Runs before after entries end → AppendsPart before.held after.held (calls_log entries end)
+  LoggedInPart : (end : End) → Asks words RunCalls → Runs before after entries end → AppendsPart before.held after.held (calls_log entries end)
       → Rose before.write_faults after.write_faults → status ≡ 5 → Ends words before after status entries
+  -- the script of so many forks was written; the source isn't read
+  Made : (n : ℕ) (script : Script) → Asks words (Make n) → IsForking n script → IsUntouched before after → Appends before.held after.held (print_of script)
+      → status ≡ 0 → entries ≡ [] → Ends words before after status entries
+  -- the sink had a fault in it
+  MadeInPart : (n : ℕ) (script : Script) → Asks words (Make n) → IsForking n script → IsUntouched before after → AppendsPart before.held after.held (print_of script)
+      → Rose before.write_faults after.write_faults → status ≡ 5 → entries ≡ [] → Ends words before after status entries
+  -- memory ran out before anything was written of it
+  NotMade : (n : ℕ) → Asks words (Make n) → after ≡ before → status ≡ 7 → entries ≡ [] → Ends words before after status entries
 
 -- Where the source told its bytes, they were a script, and this is the journal of a run of what it sets up. A run that ends
 -- quiet leaves no process, and a run whose budget is enough ends quiet.

@@ -4,6 +4,9 @@ use Rattle.std.specs.Io.KnownBytes.{Appends}
 use Rattle.w32_base.specs.declared.entry.Entry.{Entry}
 use Rattle.w32_base.specs.declared.entry.End.{End}
 use Rattle.w32_base.specs.declared.setup.Setup.{Setup}
+use Rattle.script_spec.specs.declared.script.Script.{Script}
+use Rattle.script_spec.specs.Print.{print_of}
+use Rattle.world_gen.specs.Forks.{IsForking}
 use Rattle.cyg_io.specs.Counts.{Rose}
 use Rattle.cyg_io.specs.Sink.{AppendsPart}
 use Rattle.first_layer_spec.specs.LogText.{calls_log}
@@ -28,3 +31,10 @@ abbrev pub IsLogging : Setup → Option (List ℕ) → Option (List ℕ) → ℕ
 IsLogging setup before after faults now status entries =
     ((end : End) × IsRunOf setup entries end × RunsToTheEnd setup entries end × IsLogOf entries end before after faults now status entries)
     ⊎ ((status ≡ 7) × (after ≡ before) × (entries ≡ []))
+
+-- the script of so many forks was written, or a part of it where the sink had a fault, or memory ran out before
+abbrev pub IsMaking : ℕ → Option (List ℕ) → Option (List ℕ) → ℕ → ℕ → ℕ → List Entry → Type 0
+IsMaking n before after faults now status entries =
+    ((script : Script) × IsForking n script × (status ≡ 0) × Appends before after (print_of script) × (entries ≡ []))
+    ⊎ ((script : Script) × IsForking n script × (status ≡ 5) × AppendsPart before after (print_of script) × Rose faults now × (entries ≡ []))
+    ⊎ ((status ≡ 7) × (after ≡ before) × (now ≡ faults) × (entries ≡ []))

@@ -6,17 +6,25 @@ ghost use Rattle.std.specs.List.{AllPass};
 ghost use Rattle.first_layer_spec.specs.LogText.{is_built_entry};
 ghost use Rattle.std.specs.Io.KnownBytes.{Appends};
 ghost use Rattle.cyg_io.specs.Counts.{Rose, RoseBy};
-ghost use Rattle.cyg_cli.specs.Top.{Ends, IsJournalOf, IsRead, IsRunOrShort, IsUnbuilt, refusal, run_calls, status_of as status_number};
-ghost use Rattle.cyg_cli.specs.TopParts.{IsRefusal, IsLogging, IsLogOf};
+ghost use Rattle.script_spec.specs.declared.script.Script.{Script};
+ghost use Rattle.script_spec.specs.Print.{print_of};
+ghost use Rattle.world_gen.specs.Forks.{IsForking};
+ghost use Rattle.cyg_cli.specs.Top.{Ends, IsJournalOf, IsRead, IsRunOrShort, IsUnbuilt, refusal, status_of as status_number};
+ghost use Rattle.cyg_cli.specs.TopParts.{IsRefusal, IsLogging, IsLogOf, IsMaking};
+ghost use Rattle.cyg_cli.specs.Commands.{Asks, IsNoCommand};
+ghost use Rattle.cyg_cli.specs.declared.commands.Command.TheVariants.{RunCalls, Make};
 
+use crate::commands::{Command, command_of};
 use crate::run::run;
 use crate::world::Ran;
 use cyg_io::{ReadAllFault, Sink, Source, read_all, write_all};
+use cyg_script::print_script;
 use first_form::{FirstForm, ReadError, read_first_form};
 use first_log_text::write_calls;
 use std::alloc::Global;
 use std::marker::Model;
-use w32_base::{End, Journal};
+use w32_base::{End, Journal, Memory};
+use world_gen::make;
 
 /// How the program ends.
 ///
@@ -69,26 +77,12 @@ fn without_journal(alloc: Global, status: Status) -> TopAnswer
     }
 }
 
-fn is_word(word: &String, text: &str) -> bool
-    ensures { IsTrue result ↔ (string_bytes word.now ≡ text.now) }
-{
-    word.as_str() == text
-}
-
-fn are_accepted(words: &Vec<String>) -> bool
-    ensures { IsTrue result ↔ (map string_bytes words.now.items ≡ run_calls) }
-{
-    if words.len() != 2 {
-        return false;
-    }
-    let first = is_word(&words[0], "run");
-    let second = is_word(&words[1], "calls");
-    first && second
-}
-
-/// Carries out a command. The words are the program's arguments after its own name; so far `run calls` is accepted,
-/// and the source gives a script of the first form, of at most 1,048,576 bytes. It is run on the modelled Win32, and
-/// its log goes to the sink. A text that is no script of the first form is refused with the line `fault 0 Unbuilt`.
+/// Carries out a command. The words are the program's arguments after its own name: `run calls`, or `make N` with N
+/// from 1 to 500, in digits without a leading zero.
+///
+/// With `run calls` the source gives a script of the first form, of at most 1,048,576 bytes. It is run on the modelled
+/// Win32, and its log goes to the sink. A text that is no script of the first form is refused with the line
+/// `fault 0 Unbuilt`. With `make N` the script of N forks goes to the sink, and the source isn't read.
 pub fn run_top<S: Source, K: Sink>(
     alloc: Global,
     words: &Vec<String>,
@@ -102,7 +96,7 @@ pub fn run_top<S: Source, K: Sink>(
         result.status result.journal }
 
     // 2 is the answer exactly where the words aren't accepted. Nothing is then read or written.
-    ensures other_words { (result.status ≡ 2) ↔ (map string_bytes words.now.items ≢ run_calls) }
+    ensures other_words { (result.status ≡ 2) ↔ IsNoCommand (map string_bytes words.now.items) }
     ensures source_untouched { result.status ≡ 2 → (S.remaining src.new ≡ S.remaining src.old) × (S.faults src.new ≡ S.faults src.old)
         × (S.given src.new ≡ S.given src.old) × (S.ends src.new ≡ S.ends src.old) }
     ensures sink_untouched { result.status ≡ 2 → (K.held sink.new ≡ K.held sink.old) × (K.faults sink.new ≡ K.faults sink.old) }
@@ -110,7 +104,8 @@ pub fn run_top<S: Source, K: Sink>(
     // 3 comes where the text was read and is no script of the first form. The refusal is what was written.
     ensures refused { result.status ≡ 3 → IfSome (S.remaining src.old) IsUnbuilt × Appends (K.held sink.old) (K.held sink.new) refusal }
     ensures refused_after { result.status ≡ 3 → IsRead (S.ends src.old) (S.ends src.new) (S.given src.old) (S.given src.new) }
-    ensures only_scripts_run { IfSome (S.remaining src.old) (λ text. IsUnbuilt text → (result.status ≢ 0) × (result.status ≢ 6)) }
+    ensures only_scripts_run { Asks (map string_bytes words.now.items) RunCalls
+        → IfSome (S.remaining src.old) (λ text. IsUnbuilt text → (result.status ≢ 0) × (result.status ≢ 6)) }
 
     // 4 comes only where the source had a fault, and nothing is then written. 5 comes only where the sink had one. 7
     // comes before the first directive.
@@ -123,11 +118,17 @@ pub fn run_top<S: Source, K: Sink>(
     ensures headline { result.journal ≢ [] → IsJournalOf (S.remaining src.old) result.journal }
 
     // A script is run, unless the source or the sink has a fault or memory runs out.
-    ensures complete { map string_bytes words.now.items ≡ run_calls → ¬ Rose (S.faults src.old) (S.faults src.new) → ¬ Rose (K.faults sink.old) (K.faults sink.new)
+    ensures complete { Asks (map string_bytes words.now.items) RunCalls → ¬ Rose (S.faults src.old) (S.faults src.new) → ¬ Rose (K.faults sink.old) (K.faults sink.new)
         → IfSome (S.remaining src.old) (IsRunOrShort result.status) }
 
-    // Where it ends with 0 or 6, the source has answered its end.
-    ensures whole_run { result.status ≡ 0 → RoseBy 1 (S.ends src.old) (S.ends src.new) }
+    // A script is made, unless the sink has a fault or memory runs out. The source isn't read.
+    ensures made { (n : ℕ) → Asks (map string_bytes words.now.items) (Make n) → IsMaking n (K.held sink.old) (K.held sink.new)
+        (K.faults sink.old) (K.faults sink.new) result.status result.journal }
+    ensures unread { (n : ℕ) → Asks (map string_bytes words.now.items) (Make n) → (S.remaining src.new ≡ S.remaining src.old)
+        × (S.faults src.new ≡ S.faults src.old) × (S.given src.new ≡ S.given src.old) × (S.ends src.new ≡ S.ends src.old) }
+
+    // Where a run ends with 0 or 6, the source has answered its end.
+    ensures whole_run { Asks (map string_bytes words.now.items) RunCalls → result.status ≡ 0 → RoseBy 1 (S.ends src.old) (S.ends src.new) }
     ensures part_run { result.status ≡ 6 → RoseBy 1 (S.ends src.old) (S.ends src.new) }
 {
     carry_out(alloc, words, src, sink)
@@ -144,9 +145,19 @@ fn carry_out<S: Source, K: Sink>(
         (record { left = S.remaining src.new; read_faults = S.faults src.new; given = S.given src.new; ends = S.ends src.new; held = K.held sink.new; write_faults = K.faults sink.new })
         result.status result.journal }
 {
-    if !are_accepted(words) {
-        return without_journal(alloc, Status(2));
+    match command_of(words) {
+        Some(Command::RunCalls) => run_script(alloc, src, sink),
+        Some(Command::Make(n)) => make_script(alloc, n, sink),
+        None => without_journal(alloc, Status(2)),
     }
+}
+
+fn run_script<S: Source, K: Sink>(alloc: Global, src: &mut S, sink: &mut K) -> TopAnswer
+    ensures story { (words : List (List ℕ)) → Asks words RunCalls → Ends words
+        (record { left = S.remaining src.old; read_faults = S.faults src.old; given = S.given src.old; ends = S.ends src.old; held = K.held sink.old; write_faults = K.faults sink.old })
+        (record { left = S.remaining src.new; read_faults = S.faults src.new; given = S.given src.new; ends = S.ends src.new; held = K.held sink.new; write_faults = K.faults sink.new })
+        result.status result.journal }
+{
     let bytes = match read_all(alloc, src, MOST_BYTES) {
         Ok(bytes) => bytes,
         Err(ReadAllFault::Read) => return without_journal(alloc, Status(4)),
@@ -158,6 +169,29 @@ fn carry_out<S: Source, K: Sink>(
         Err(ReadError::Memory) => without_journal(alloc, Status(7)),
         Err(ReadError::Unbuilt) => refuse(alloc, sink),
     }
+}
+
+fn make_script<K: Sink>(alloc: Global, n: u16, sink: &mut K) -> TopAnswer
+    requires { (1 ≤ n) × (n ≤ 500) }
+    ensures { IsMaking n (K.held sink.old) (K.held sink.new) (K.faults sink.old) (K.faults sink.new) result.status result.journal }
+{
+    let Ok(text) = script_text(alloc, n) else {
+        return without_journal(alloc, Status(7));
+    };
+    match write_all(sink, &text) {
+        Ok(()) => without_journal(alloc, Status(0)),
+        Err(_) => without_journal(alloc, Status(5)),
+    }
+}
+
+// The text of the script of so many forks.
+fn script_text(alloc: Global, n: u16) -> Result<Vec<u8>, Memory>
+    requires { (1 ≤ n) × (n ≤ 500) }
+    ensures { IfOk result (λ text. (script : Script) × IsForking n script × (text.items ≡ print_of script)) }
+{
+    let script = make(alloc, n)?;
+    let text = print_script(alloc, &script)?;
+    Ok(text)
 }
 
 fn refuse<K: Sink>(alloc: Global, sink: &mut K) -> TopAnswer

@@ -109,7 +109,15 @@ fn other_words_are_refused(rt: HostRuntime) -> Result<(), Fail> {
         &[],
         &["run"],
         &["run", "quick"],
+        &["make"],
         &["make", "0"],
+        &["make", "501"],
+        &["make", "07"],
+        &["make", "+7"],
+        &["make", "7 "],
+        &["make", "two"],
+        &["make", "18446744073709551617"],
+        &["make", "2", "2"],
         &["run", "calls", "calls"],
         &["--help"],
     ];
@@ -122,6 +130,31 @@ fn other_words_are_refused(rt: HostRuntime) -> Result<(), Fail> {
         assert_eq!(rt; ending.write_faults, 0);
         assert_eq!(rt; ending.entries, 0);
     }
+    Ok(())
+}
+
+// What `make 2` writes.
+const TWO_FORKS: &[u8] = b"cygscript 1\nslots 2\nrows 3\nbudget 500000\nprogram main heap 64 stack 64\nfork\njzero r0 7\nwait r0 0\nfork\njzero r0 7\nwait r0 0\nexit 0\ngetpid\nexit r0\nschedule\nsettle\n";
+
+#[test]
+fn scripts_are_made(rt: HostRuntime) -> Result<(), Fail> {
+    let mut sink = sink_that_fails(&rt, &[])?;
+    let ending = run_words(&rt, &["make", "2"], joined(&rt, START, FIRST)?, &[1], &mut sink)?;
+    assert_eq!(rt; ending.status, 0);
+    assert!(rt; sink.contents() == TWO_FORKS);
+    assert_eq!(rt; ending.read_faults, 0);
+    assert_eq!(rt; ending.entries, 0);
+
+    let mut large = MemSink::new(rt.alloc(), 65_536, Vec::new(rt.alloc()))?;
+    let ending = run_words(&rt, &["make", "500"], Vec::new(rt.alloc()), &[], &mut large)?;
+    assert_eq!(rt; ending.status, 0);
+    assert!(rt; large.contents().starts_with(b"cygscript 1\nslots 2\nrows 501\n"));
+    assert!(rt; large.contents().ends_with(b"exit 0\ngetpid\nexit r0\nschedule\nsettle\n"));
+
+    let mut failing = sink_that_fails(&rt, &[1])?;
+    let ending = run_words(&rt, &["make", "2"], Vec::new(rt.alloc()), &[], &mut failing)?;
+    assert_eq!(rt; ending.status, 5);
+    assert!(rt; TWO_FORKS.starts_with(failing.contents()));
     Ok(())
 }
 

@@ -1,35 +1,15 @@
-use Rattle.std.proofs.Common.{◌≡◌, refl, sym, ◌∙◌, ap, subst, inl, inr, Err}
-use Rattle.first_form.specs.declared.error.ReadError.TheVariants.{Unbuilt, Memory}
-use Rattle.first_layer_spec.specs.FirstForm.{IsFirstForm}
-use Rattle.cyg_cli.specs.Top.{IsUnbuilt}
-use Rattle.cyg_cli.proofs.Ends.{of_left, too_long, refusal_ends, logging_ends}
+use Rattle.std.proofs.Common.{refl, subst}
+use Rattle.cyg_cli.specs.Commands.{Asks}
+use Rattle.cyg_cli.proofs.Ends.{making_ends}
 use Rattle.cyg_cli.proofs.top.carry_out.Goals as goal
 
-pub returns-in-Err-Large : goal.returns-in-Err-Large
-returns-in-Err-Large g c =
-    let drawn = c.in-Err-Large.ensures.large (ap Err c.in-Err-Large.field-0-is) in
-    record {
-      story = refusal_ends _ _ _ _ _ (c.if-not-are_accepted.ensures.0 refl)
-          (record { read = inr drawn.count; text = too_long _ _ _ _ drawn }) c.refuse.ensures;
-    }
+pub returns-in-Some-RunCalls : goal.returns-in-Some-RunCalls
+returns-in-Some-RunCalls g c =
+    record { story = c.run_script.ensures.story _ (subst (Asks _) c.in-Some-RunCalls.field-0-is c.in-Some-RunCalls.ensures) }
 
-pub returns-in-Ok-read_first_form : goal.returns-in-Ok-read_first_form
-returns-in-Ok-read_first_form g c =
-    let read = c.in-Ok-read_first_form.ensures.read in
-    let text : IsFirstForm c.in-Ok.bytes.items read.0 read.1 = subst (λ x. IsFirstForm x read.0 read.1) c.deref.ensures.value read.2 in
-    record {
-      story = logging_ends _ _ _ _ _ c.in-Ok-read_first_form.form.setup c.in-Ok.bytes.items read.0 read.1 (c.if-not-are_accepted.ensures.0 refl)
-          c.in-Ok.ensures.ended c.in-Ok.ensures.bytes text read.3
-          (λ b code h. c.in-Ok-read_first_form.ensures.only b code (subst (λ x. IsFirstForm x b code) (sym c.deref.ensures.value) h)) c.run_form.ensures;
-    }
-
-pub returns : goal.returns
-returns g c =
-    let unbuilt : IsUnbuilt c.in-Ok.bytes.items = λ budget code h.
-    let e : c.in-Err-Unbuilt.field-0 ≡ Memory = c.in-Err-Unbuilt.ensures.only budget code (subst (λ x. IsFirstForm x budget code) (sym c.deref.ensures.value) h) in
-    let never : Unbuilt ≡ Memory = sym c.in-Err-Unbuilt.field-0-is ∙ e in
-    cc in
-    record {
-      story = refusal_ends _ _ _ _ _ (c.if-not-are_accepted.ensures.0 refl)
-          (record { read = inl c.in-Ok.ensures.ended; text = of_left IsUnbuilt _ c.in-Ok.bytes.items c.in-Ok.ensures.bytes unbuilt }) c.refuse-in-Err-Unbuilt.ensures;
-    }
+pub returns-in-Some-Make : goal.returns-in-Some-Make
+returns-in-Some-Make g c = record {
+  story = making_ends c.in-Some-Make.n _ _ _ _ _ (subst (Asks _) c.in-Some-Make.field-0-is c.in-Some-Make.ensures)
+      (record { left = refl; read_faults = refl; given = refl; ends = refl }) c.make_script.ensures
+      (λ held faults. rw (held, faults) refl);
+}
