@@ -66,9 +66,7 @@ fn usage(alloc: Global) -> Result<String, AllocError> {
     let run = Command::new(alloc, "run")
         .about("reads a script on standard input and writes its log, by process")
         .arg(view)?;
-    let forks = Arg::new(alloc, "N")
-        .required(true)
-        .action(ArgAction::Set);
+    let forks = Arg::new(alloc, "N").required(true).action(ArgAction::Set);
     let make = Command::new(alloc, "make")
         .about("writes the script of N forks, 1 to 500")
         .arg(forks)?;

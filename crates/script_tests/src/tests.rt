@@ -134,12 +134,19 @@ fn other_words_are_refused(rt: HostRuntime) -> Result<(), Fail> {
 }
 
 // What `make 2` writes.
-const TWO_FORKS: &[u8] = b"cygscript 1\nslots 2\nrows 3\nbudget 500000\nprogram main heap 64 stack 64\nfork\njzero r0 7\nwait r0 0\nfork\njzero r0 7\nwait r0 0\nexit 0\ngetpid\nexit r0\nschedule\nsettle\n";
+const TWO_FORKS: &[u8] =
+    b"cygscript 1\nslots 2\nrows 3\nbudget 500000\nprogram main heap 64 stack 64\nfork\njzero r0 7\nwait r0 0\nfork\njzero r0 7\nwait r0 0\nexit 0\ngetpid\nexit r0\nschedule\nsettle\n";
 
 #[test]
 fn scripts_are_made(rt: HostRuntime) -> Result<(), Fail> {
     let mut sink = sink_that_fails(&rt, &[])?;
-    let ending = run_words(&rt, &["make", "2"], joined(&rt, START, FIRST)?, &[1], &mut sink)?;
+    let ending = run_words(
+        &rt,
+        &["make", "2"],
+        joined(&rt, START, FIRST)?,
+        &[1],
+        &mut sink,
+    )?;
     assert_eq!(rt; ending.status, 0);
     assert!(rt; sink.contents() == TWO_FORKS);
     assert_eq!(rt; ending.read_faults, 0);
@@ -148,8 +155,16 @@ fn scripts_are_made(rt: HostRuntime) -> Result<(), Fail> {
     let mut large = MemSink::new(rt.alloc(), 65_536, Vec::new(rt.alloc()))?;
     let ending = run_words(&rt, &["make", "500"], Vec::new(rt.alloc()), &[], &mut large)?;
     assert_eq!(rt; ending.status, 0);
-    assert!(rt; large.contents().starts_with(b"cygscript 1\nslots 2\nrows 501\n"));
-    assert!(rt; large.contents().ends_with(b"exit 0\ngetpid\nexit r0\nschedule\nsettle\n"));
+    assert!(rt;
+        large
+            .contents()
+            .starts_with(b"cygscript 1\nslots 2\nrows 501\n")
+    );
+    assert!(rt;
+        large
+            .contents()
+            .ends_with(b"exit 0\ngetpid\nexit r0\nschedule\nsettle\n")
+    );
 
     let mut failing = sink_that_fails(&rt, &[1])?;
     let ending = run_words(&rt, &["make", "2"], Vec::new(rt.alloc()), &[], &mut failing)?;
