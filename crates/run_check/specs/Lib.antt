@@ -1,2 +1,4 @@
 pub mod Judged
 pub mod JudgedLaws
+pub mod Judging
+pub mod Parts
