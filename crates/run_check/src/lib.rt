@@ -1,10 +1,10 @@
 //! Whether a list of events is a run of the POSIX machine, and what a text of a script and a log is.
 #![tactic(auto)]
 
-#[cfg(test)]
-mod tests;
 pub mod judging;
 mod parts;
+#[cfg(test)]
+mod tests;
 pub mod verdict;
 
 pub use judging::{Judged, judge};

@@ -3,7 +3,7 @@
 use super::*;
 use posix_model::rule::Rule;
 use posix_model::state::{ApplyError, State};
-use script_spec::{Lines, Occupied, ScheduleLine, Script};
+use script_spec::{Kind, Lines, Occupied, ScheduleLine, Script};
 use std::alloc::Global;
 use std::test::Fail;
 use w32_base::{
@@ -82,6 +82,7 @@ fn with_child_events(alloc: Global) -> Result<Vec<Event>, Fail> {
 fn a_child_is_reaped(rt: HostRuntime) -> Result<(), Fail> {
     let script = with_child(rt.alloc())?;
     let events = with_child_events(rt.alloc())?;
+    assert_eq!(rt; events.len(), 11);
     assert_eq!(rt; check(rt.alloc(), &script, &events)?, Verdict::Yes);
     Ok(())
 }
@@ -206,5 +207,31 @@ fn a_group_is_killed_member_by_member(rt: HostRuntime) -> Result<(), Fail> {
         rule: Rule::GroupDone,
     };
     assert_eq!(rt; check(rt.alloc(), &script, &early)?, verdict);
+    Ok(())
+}
+
+/// A script of one process that ends at once, and a log of its run.
+const ENDS: &[u8] =
+    b"cygscript 1\nslots 1\nrows 1\nbudget 100000\nprogram main heap 0 stack 64\nexit 0\n\
+    schedule\nsettle\n==\nlog events\ndie 2 0 exit\ncollect 2\nhost 0 0\ndone quiet\n";
+
+/// The same script, with a log whose second line is no step.
+const REAPS: &[u8] =
+    b"cygscript 1\nslots 1\nrows 1\nbudget 100000\nprogram main heap 0 stack 64\nexit 0\n\
+    schedule\nsettle\n==\nlog events\nreap 2 3 7\ndone quiet\n";
+
+#[test]
+fn a_script_and_a_log_are_judged(rt: HostRuntime) -> Result<(), Fail> {
+    assert_eq!(rt; judge(rt.alloc(), ENDS)?, Judged::Verdict(Verdict::Yes));
+    let verdict = Verdict::No {
+        line: 2,
+        rule: Rule::Reap,
+    };
+    assert_eq!(rt; judge(rt.alloc(), REAPS)?, Judged::Verdict(verdict));
+    let fault = Judged::ScriptFault {
+        line: 1,
+        kind: Kind::NoHeader,
+    };
+    assert_eq!(rt; judge(rt.alloc(), b"==\nlog events\ndone quiet\n")?, fault);
     Ok(())
 }
