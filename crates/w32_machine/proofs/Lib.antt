@@ -52,3 +52,10 @@ mod Created
 mod CreatedSound
 mod Creates
 mod DrivenSteps
+mod ScriptCopying
+mod FirstModules
+mod FirstHandles
+mod FirstCygheap
+mod FirstWords
+mod FirstProcesses
+mod FirstObjects

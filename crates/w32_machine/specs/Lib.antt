@@ -14,3 +14,6 @@ pub mod Turning
 pub mod Driving
 pub mod DrivenTurns
 pub mod Creating
+pub mod ScriptCopies
+pub mod Rows
+pub mod Opened

@@ -19,6 +19,7 @@ use w32_handles::Objects;
 use w32_process::Processes;
 use w32_section::BadIndex;
 
+mod copying;
 mod creating;
 mod ending;
 mod finding;
@@ -28,6 +29,7 @@ mod making;
 mod memory;
 mod naming;
 mod objects;
+mod opening;
 mod processes;
 mod ready;
 mod terminal;

@@ -1,6 +1,7 @@
 //! The modules that are placed in a process.
 
 ghost use Rattle.std.specs.Prelude.{◌≡◌, ◌+◌, ◌<◌, ◌≤◌, ◌&&◌, nat_le, nat_lt, length, [], slice_get};
+ghost use Rattle.win32_spec.specs.Opening.{base_bytes};
 ghost use Rattle.win32_spec.specs.Placing.{base_in, and_placed, is_occupied, is_in_module, pages_of};
 ghost use Rattle.win32_spec.specs.Placing.{is_taken, taken_pages};
 ghost use Rattle.win32_spec.specs.Regions.{IsPlaceFor};
@@ -71,6 +72,20 @@ impl Placements {
         ensures { self.new ≡ and_placed self.old number base }
     {
         self.modules.push(Placement { number, base });
+    }
+
+    /// The first pages of the modules, each in two bytes, the low one first.
+    pub fn base_bytes(&self) -> ArrayVec<u8, 16>
+        ensures value { result.items ≡ base_bytes self.now }
+        ensures few { length result.items ≤ 16 }
+    {
+        let mut bytes = ArrayVec::new();
+        let modules = self.modules.as_slice();
+        for m in modules {
+            bytes.push((m.base % 256) as u8);
+            bytes.push((m.base / 256) as u8);
+        }
+        bytes
     }
 
     /// Where a module goes in the layer process that is made as the `creation`-th one: to the wanted page, or to the
