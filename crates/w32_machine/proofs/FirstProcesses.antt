@@ -1,6 +1,6 @@
 -- The table of processes as a run begins.
-use Rattle.std.proofs.Common.{◌≡◌, ◌∙◌, inl, inr, ℕ, zero, suc, ◌+◌, ◌-◌, ◌≤◌, ◌<◌, List, [], ◌∷◌, replicate, length}
-use Rattle.std.proofs.Common.{true, false, Some, None, IsSome, refl, sym, ap, subst, arith}
+use Rattle.std.proofs.Common.{◌≡◌, ◌∙◌, inl, inr, ℕ, zero, suc, ◌-◌, ◌≤◌, List, [], ◌∷◌, replicate}
+use Rattle.std.proofs.Common.{true, false, Some, refl, sym, ap, subst, arith}
 use Rattle.std.proofs.lemmas.Bool.{cases_eq}
 use Rattle.w32_base.specs.declared.own.Own.{Own}
 use Rattle.w32_base.specs.declared.setup.Program.{Program}
@@ -9,8 +9,8 @@ use Rattle.win32_spec.specs.Making.{new_memory}
 use Rattle.win32_spec.specs.Opening.{OpeningNumbers, opening_host, opening_handles, opening_cygheap}
 use Rattle.win32_spec.specs.ProcessCalls.{resumed}
 use Rattle.win32_spec.specs.State.{PlacedModule}
-use Rattle.w32_process.specs.Places.{Place, empty_place, host_place, made_place}
-use Rattle.w32_process.specs.Table.{Table, place_at, number_at, count_at, opening_table, with_handles, with_made}
+use Rattle.w32_process.specs.Places.{Place, empty_place, host_place}
+use Rattle.w32_process.specs.Table.{Table, place_at, count_at, opening_table, with_handles, with_made}
 use Rattle.w32_process.specs.Table.{with_count, with_own, IsLowestEmpty}
 use Rattle.w32_machine.specs.Opened.{opened_host, opened_place, opened_table}
 
