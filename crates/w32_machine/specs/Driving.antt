@@ -42,6 +42,10 @@ module _ {P : Type 0} (posted_of : P → Call) (goes : P → Own → Setup → R
   OpensSlot new after slot = (t : ℕ)
       → OpensPart posted_of goes opening slot_of thread_of_part (thread_at new slot t) slot t (part_at after slot t)
 
+  -- the same of each slot
+  abbrev pub OpensAll : Win32State → Parts P → Type 0
+  OpensAll new after = (slot : ℕ) → OpensSlot new after slot
+
   -- the part at a place goes on with a reply
   pub record GoesOn (script : Script) (mid : Win32State) (parts : Parts P) (slot t w : ℕ) (reply : Reply)
       (event : Option Event) (new : Win32State) (after : Parts P) : Type 0 where

@@ -1,10 +1,11 @@
 //! A machine whose threads are driven by parts.
 
-ghost use Rattle.std.specs.Prelude.{◌≡◌, ◌<◌, ◌≤◌, None, length, IsSome, true};
+ghost use Rattle.std.specs.Prelude.{◌≡◌, ◌<◌, ◌≤◌, None, length, IsSome, IfOk, true};
+ghost use Rattle.script_spec.specs.Validity.{IsValid};
 ghost use Rattle.w32_base.specs.declared.entry.Directive.TheVariants as directive;
 ghost use Rattle.w32_base.specs.declared.entry.Outcome.TheVariants as outcome;
 ghost use Rattle.win32_spec.specs.Call.{CallStep};
-ghost use Rattle.win32_spec.specs.Driven.{part_at, DrivenBy, AllFollow};
+ghost use Rattle.win32_spec.specs.Driven.{part_at, DrivenBy, AllFollow, IsDrivenOpening};
 ghost use Rattle.win32_spec.specs.Lookup.{thread_at};
 ghost use Rattle.win32_spec.specs.Named.{handles_by};
 ghost use Rattle.win32_spec.specs.Ready.{may_go};
@@ -17,10 +18,12 @@ ghost use Rattle.w32_machine.specs.Ending.{outcome_of_end};
 ghost use Rattle.w32_machine.specs.Turning.{IsNextCall};
 
 use crate::caller::Caller;
-use crate::driven::parts::{follow, place};
+use crate::driven::parts::{first_parts, follow, place};
 use crate::machine::Machine;
+use script_spec::Script;
+use std::alloc::Global;
 use std::marker::Model;
-use w32_base::{Call, Event, Reply, Slot, ThreadNo, Whole, WinNo};
+use w32_base::{Call, Event, Memory, Reply, Slot, ThreadNo, Whole, WinNo};
 
 mod parts;
 
@@ -76,6 +79,23 @@ impl<P: Whole + Drop> Model for Driven<P> {
 }
 
 impl<P: Whole + Drop> Driven<P> {
+    /// The machine in the state in which a run of the script begins, with a part for each thread that was just opened.
+    /// All memory is taken here. It fails only for want of it.
+    pub fn open(alloc: Global, script: &Script) -> Result<Driven<P>, Memory>
+        requires { IsValid script.now }
+        ensures opening { IfOk result (λ driven. IsDrivenOpening P.posted_of P.goes P.opening P.slot_of P.thread_of
+            script.now driven.state) }
+        ensures script { IfOk result (λ driven. driven.script ≡ script.now) }
+    {
+        let machine = Machine::open(alloc, script)?;
+        let parts = first_parts(alloc, &machine)?;
+        Ok(Driven {
+            machine,
+            parts,
+            last: None,
+        })
+    }
+
     /// One turn of a thread: where it is ready, its posted call is carried out. Where its process lives on then, its
     /// part goes on with the reply, and posts the next call. A process that was made gets its parts, and those of one
     /// that ended go.

@@ -2,19 +2,26 @@
 
 ghost use Rattle.std.specs.Prelude.{◌≡◌, ◌+◌, ◌*◌, ◌<◌, ◌≤◌, ◌↔◌, length, true, false, IsTrue, IfOk, IfSome, IsSome};
 ghost use Rattle.std.specs.Prelude.{MatchOption, MatchResult, option_copied};
+ghost use Rattle.script_spec.specs.Validity.{IsValid};
 ghost use Rattle.w32_base.specs.declared.call.Reply.TheVariants as reply;
 ghost use Rattle.win32_spec.specs.Objects.{load_reply};
 ghost use Rattle.win32_spec.specs.Lookup.{process_in, thread_at, number_in, section_words};
+ghost use Rattle.win32_spec.specs.Opening.{IsOpening};
 ghost use Rattle.win32_spec.specs.Ready.{IsQuiet, IsNextReady};
 ghost use Rattle.win32_spec.specs.Run.{Posts, with_key};
 ghost use Rattle.w32_machine.specs.Contract.{own_in};
 
 use crate::kind::Kind;
+use crate::machine::copying::script_of;
+use crate::machine::opening::objects::first_objects;
+use crate::machine::opening::parts::{first_calls, first_modules, first_placements};
+use crate::machine::opening::processes::first_processes;
 use crate::placements::Placements;
 use script_spec::Script;
+use std::alloc::Global;
 use std::collections::VecDeque;
 use std::marker::Model;
-use w32_base::{Call, ObjectNo, Own, Slot, ThreadNo, WinNo};
+use w32_base::{Call, Memory, ObjectNo, Own, Slot, ThreadNo, WinNo};
 use w32_handles::Objects;
 use w32_process::Processes;
 use w32_section::BadIndex;
@@ -69,6 +76,28 @@ impl Model for Machine {
 }
 
 impl Machine {
+    /// The machine in the state in which a run of the script begins. All memory is taken here. It fails only for want of
+    /// it.
+    pub fn open(alloc: Global, script: &Script) -> Result<Machine, Memory>
+        requires { IsValid script.now }
+        ensures opening { IfOk result (λ machine. IsOpening script.now machine.win32) }
+        ensures script { IfOk result (λ machine. machine.script ≡ script.now) }
+    {
+        let slots = usize::from(script.setup.limits.slots) + 1;
+        let (objects, numbers) = first_objects(alloc)?;
+        let placed = first_placements(script);
+        let processes = first_processes(alloc, script, &numbers, &placed)?;
+        Ok(Machine {
+            script: script_of(alloc, script)?,
+            processes,
+            objects,
+            section: numbers.section,
+            posted: first_calls(alloc, 3 * slots)?,
+            placed: first_modules(alloc, slots, placed)?,
+            keys: VecDeque::with_capacity(alloc, script.directives.len())?,
+        })
+    }
+
     /// Sets the next call of a thread.
     pub fn post(&mut self, slot: Slot, thread: ThreadNo, call: Call)
         requires { IsSome (thread_at self.old.win32 slot thread) }

@@ -1,12 +1,36 @@
 //! The parts of the threads of a slot.
 
-ghost use Rattle.std.specs.Prelude.{◌≡◌, ◌+◌, ◌*◌, ◌<◌, ℕ, length};
+ghost use Rattle.std.specs.Prelude.{◌≡◌, ◌+◌, ◌*◌, ◌<◌, ℕ, length, IfOk};
 ghost use Rattle.win32_spec.specs.Driven.{OpensPart};
 ghost use Rattle.win32_spec.specs.Lookup.{thread_at};
-ghost use Rattle.w32_machine.specs.Driving.{SlotFollows, OpensSlot, OtherSlotsStay, HasFewThreads};
+ghost use Rattle.w32_machine.specs.Driving.{SlotFollows, OpensSlot, OpensAll, OtherSlotsStay, HasFewThreads};
 
 use crate::machine::Machine;
-use w32_base::{Slot, ThreadNo, Whole, WinNo};
+use std::alloc::Global;
+use w32_base::{Memory, Slot, ThreadNo, Whole, WinNo};
+
+/// How many places for parts there are: three in each of 65 slots.
+const PLACES: usize = 195;
+
+// The parts of a machine, each as it is opened. It fails only for want of memory.
+pub(super) fn first_parts<P: Whole + Drop>(
+    alloc: Global,
+    machine: &Machine,
+) -> Result<Vec<Option<P>>, Memory>
+    ensures opened { IfOk result (λ parts. OpensAll P.posted_of P.goes P.opening P.slot_of P.thread_of
+        machine.now.win32 parts.items) }
+    ensures places { IfOk result (λ parts. length parts.items ≡ 195) }
+{
+    let mut parts = Vec::with_capacity(alloc, PLACES)?;
+    for place in 0..PLACES {
+        let (slot, thread) = (
+            Slot::new((place / 3) as u8),
+            ThreadNo::new((place % 3) as u8),
+        );
+        parts.push(part_of(machine, slot, thread))?;
+    }
+    Ok(parts)
+}
 
 // Where a slot has another process than before, or none any more, its parts are opened, or go.
 pub(super) fn follow<P: Whole + Drop>(

@@ -2,6 +2,6 @@
 
 mod cygheap;
 mod numbers;
-mod objects;
-mod parts;
-mod processes;
+pub(super) mod objects;
+pub(super) mod parts;
+pub(super) mod processes;

@@ -6,7 +6,7 @@ use w32_base::ObjectNo;
 
 /// Even numbers, which rise in this order.
 #[derive(Clone, Copy)]
-pub(super) struct Numbers {
+pub(crate) struct Numbers {
     /// The shared section's.
     pub section: ObjectNo,
     /// The roster mutex's.
