@@ -59,3 +59,6 @@ mod FirstCygheap
 mod FirstWords
 mod FirstProcesses
 mod FirstObjects
+mod FirstShown
+mod FirstHeld
+mod FirstSound
