@@ -105,6 +105,9 @@ module _ (m : Inside) (sound : IsSound m) (slot t : ℕ) (some : IsSome (thread_
   few = (acting m.script (view_of m).win32 slot t there.0 there.1 sound.state.formed
       (record { process = there.2; thread = there.3 })).few
 
+  pub few-places : (slot ≤ 64) × (t ≤ 2)
+  few-places = (omega (arith, within_slots m.processes.slots slot there.0.number stands_at, sound.table.few), few)
+
   pub within_posted : 3 * slot + t < length m.posted.items
   within_posted = omega (arith, within_slots m.processes.slots slot there.0.number stands_at, sound.posted, few)
 

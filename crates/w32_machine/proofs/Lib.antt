@@ -62,3 +62,4 @@ mod FirstObjects
 mod FirstShown
 mod FirstHeld
 mod FirstSound
+mod FirstParts

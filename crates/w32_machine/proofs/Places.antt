@@ -84,7 +84,7 @@ module _ {P : Type 0} (posted_of : P → Call) (goes : P → Own → Setup → R
       past : 3 ≤ t → (o : Option Thread) → thread_at s slot t ≡ o
           → OpensPart posted_of goes opening slot_of thread_of_part o slot t (part_at after slot t)
       past l None e = let b = not_before t 3 l in rw b refl
-      past l (Some x) e = absurd (let f = few slot t (rw e refl) in omega (arith, f, l))
+      past l (Some x) e = absurd (let f = few slot t (rw e refl) in omega (arith, f.1, l))
 
       by_third : t ≢ 0 → t ≢ 1 → (t ≡ 2) ⊎ (t ≢ 2) → Opens t (part_at after slot t)
       by_third d e (inl n) = subst (λ k. Opens k (part_at after slot k)) (sym n) (rw at_third third)

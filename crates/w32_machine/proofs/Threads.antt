@@ -1,14 +1,13 @@
 -- The threads of a slot, by the tables.
 use Rattle.std.proofs.Common.{◌≡◌, ◌≢◌, ◌∙◌, ◌↔◌, ℕ, true, false, nat_eq, Option, Some, None, IsSome, IsTrue, refl, sym, ap}
-use Rattle.std.proofs.Common.{subst, ◌≤◌, Bool, not, arith}
+use Rattle.std.proofs.Common.{◌≤◌, Bool, not, arith}
 use Rattle.std.proofs.lemmas.Bool.{eqb-true}
 use Rattle.std.specs.Option.{option_eq}
 use Rattle.win32_spec.specs.State.{Process}
 use Rattle.win32_spec.specs.Lookup.{process_in, thread_of, thread_at, number_of, number_in}
 use Rattle.win32_spec.specs.LookupLaws.{same}
-use Rattle.w32_process.specs.Places.{count_of}
 use Rattle.w32_process.specs.SoundLaws.{within_slots}
-use Rattle.w32_process.specs.Table.{place_at, number_at, count_at}
+use Rattle.w32_process.specs.Table.{number_at, count_at}
 use Rattle.w32_process.specs.ThreadLaws.{thread_shown}
 use Rattle.w32_machine.specs.declared.machine.Machine.TheInside.{Inside}
 use Rattle.w32_machine.specs.Running.{Running}

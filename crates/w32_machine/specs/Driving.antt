@@ -1,5 +1,5 @@
 -- What a contract sees of a machine that is driven by parts.
-use Rattle.std.specs.Prelude.{◌≡◌, ◌≢◌, ◌⊎◌, ℕ, ◌≤◌, List, Option, Some, None, IsSome, length, MatchBool}
+use Rattle.std.specs.Prelude.{◌≡◌, ◌≢◌, ◌⊎◌, ℕ, ◌≤◌, Option, Some, IsSome, length, MatchBool}
 use Rattle.w32_base.specs.declared.call.Call.{Call}
 use Rattle.w32_base.specs.declared.call.Call.TheVariants as call
 use Rattle.w32_base.specs.declared.call.Reply.{Reply}
@@ -77,9 +77,9 @@ pub record IsAnswer {P : Type 0} (goes : P → Own → Setup → Reply → P →
   pub after : new.win32 ≡ with_own old.win32 w own
   pub script : new.script ≡ old.script
 
--- no process has more than three threads
+-- there are threads from 0 to 2 alone, in slots from 0 to 64
 abbrev pub HasFewThreads : Win32State → Type 0
-HasFewThreads s = (k t : ℕ) → IsSome (thread_at s k t) → t ≤ 2
+HasFewThreads s = (slot t : ℕ) → IsSome (thread_at s slot t) → (slot ≤ 64) × (t ≤ 2)
 
 -- a reply tells of a process that was made, and that stands in this slot, or in none
 pub record ToldOf (s : Win32State) (r : Reply) (slot : ℕ) : Type 0 where

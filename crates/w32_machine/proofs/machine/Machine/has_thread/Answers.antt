@@ -1,7 +1,7 @@
 use Rattle.std.proofs.Common.{◌∙◌, sym, subst, IsSome}
 use Rattle.win32_spec.specs.Lookup.{thread_at}
 use Rattle.w32_machine.specs.Running.{Running}
-use Rattle.w32_machine.proofs.Keeping.{few}
+use Rattle.w32_machine.proofs.Keeping.{few-places}
 use Rattle.w32_machine.proofs.Threads.{counted-some, counted-none, some-iff, none-iff}
 use Rattle.w32_machine.proofs.machine.Machine.has_thread.Goals as goal
 
@@ -13,7 +13,7 @@ returns-in-Some-clause-value c =
 
 pub returns-in-Some-clause-few : goal.returns-in-Some-clause-few
 returns-in-Some-clause-few c = λ k t some.
-    few c.self.inside c.self.invariant k t
+    few-places c.self.inside c.self.invariant k t
     (subst (λ (r : Running). IsSome (thread_at r.win32 k t)) (sym c.self.view_is) some)
 
 pub returns-in-None-clause-value : goal.returns-in-None-clause-value
@@ -24,5 +24,5 @@ returns-in-None-clause-value c =
 
 pub returns-in-None-clause-few : goal.returns-in-None-clause-few
 returns-in-None-clause-few c = λ k t some.
-    few c.self.inside c.self.invariant k t
+    few-places c.self.inside c.self.invariant k t
     (subst (λ (r : Running). IsSome (thread_at r.win32 k t)) (sym c.self.view_is) some)
