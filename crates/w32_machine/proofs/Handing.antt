@@ -32,7 +32,8 @@ use Rattle.w32_process.specs.Table.{place_at, number_at, with_handles}
 use Rattle.w32_sync.specs.declared.pipe.PipeEnd.{PipeEnd}
 use Rattle.w32_sync.specs.declared.pipe.PipeEnd.TheVariants.{Read, Write}
 use Rattle.w32_machine.specs.Contract.{IsCaller}
-use Rattle.w32_machine.specs.Handing.{named_end, held_more, held_by, MayBeHeld}
+use Rattle.w32_machine.specs.Ending.{end_by}
+use Rattle.w32_machine.specs.Handing.{held_more, held_by, MayBeHeld}
 use Rattle.w32_machine.specs.Kinds.{ends_on, with_ends}
 use Rattle.w32_machine.specs.declared.caller.Caller.{Caller}
 use Rattle.w32_machine.specs.declared.kind.Kind.{Kind}
@@ -72,7 +73,7 @@ kind-more : (slots slots' : List Place) (ps ps' : List Process) (section names :
     → ((q : ℕ) → all_holders_of ps' q ≡ all_holders_of ps q + (if nat_eq names q then 1 else 0))
     → IsKind slots ps section (object_number names) x
     → IsKind slots' ps' section (object_number names)
-    (with_ends x (named_end names) (ends_on x (named_end names) + 1))
+    (with_ends x (end_by names) (ends_on x (end_by names) + 1))
 kind-more slots slots' ps ps' section names (kind.Pipe p) numbers more h =
     let n : ℕ = object_number names in
     let first = more n in
@@ -152,7 +153,7 @@ module _ (m : Inside) (sound : IsSound m) (now : Running) (shows : view_of m ≡
       subst (MayBeHeld names) (sym at.1) (
         omega (arith, its.holders, few),
         ends-few m.processes.slots (view_of m).win32.processes m.section (object_number names) at.0.object
-            (named_end names) its.kind (omega (arith, few)),
+            (end_by names) its.kind (omega (arith, few)),
       )
 
   -- The tables with a handle more of the caller, and other objects.
@@ -261,7 +262,7 @@ module _ (m : Inside) (sound : IsSound m) (now : Running) (shows : view_of m ≡
       objects-are : objects_of shown objects.places ≡ objects_of shown m.objects.places
       objects-are =
           objects-stay shown m.objects objects names (Some (held_more names kept)) more
-          (ap Some (shown-more kept.object (named_end names) (ends_on kept.object (named_end names) + 1))
+          (ap Some (shown-more kept.object (end_by names) (ends_on kept.object (end_by names) + 1))
           ∙ sym (ap (object_shown shown) was))
 
       objects-now : objects_of shown objects.places ≡ now.win32.objects

@@ -12,7 +12,8 @@ use Rattle.w32_machine.specs.declared.kind.Kind.{Kind}
 use Rattle.w32_machine.specs.declared.kind.Kind.TheVariants as kind
 use Rattle.w32_machine.specs.Kinds.{ends_on, with_ends}
 use Rattle.w32_machine.specs.Ending.{end_by}
-use Rattle.w32_machine.specs.Creating.{MayHold, kept_more, HoldsOne, kind_with, kept_with, HoldsEach, HaveRoom}
+use Rattle.w32_machine.specs.Creating.{kind_with, kept_with, HoldsEach, HaveRoom}
+use Rattle.w32_machine.specs.Handing.{held_more, held_by, MayBeHeld}
 use Rattle.w32_machine.proofs.Below.{handles_below, count_named, below-next, below-first, below-all, below-le}
 
 -- a handle more is one more by its end
@@ -61,7 +62,7 @@ one_named names =
     ]
 
 kept-more-is : (names a b : ℕ) (x : Kept Kind)
-    → Some (kept_more names (record { object = kind_with a b x.object; holders = x.holders + (a + b) })) ≡
+    → Some (held_more names (record { object = kind_with a b x.object; holders = x.holders + (a + b) })) ≡
     kept_with (a + (if nat_eq names (object_number names) then 1 else 0))
     (b + (if nat_eq names (object_number names + 1) then 1 else 0)) (Some x)
 kept-more-is names a b x =
@@ -135,10 +136,10 @@ module _ (hs : List Handle) (rising : AreRisingFrom 1 hs) (old : Table Kind) whe
           h names
           ∙ ap (kept_with (holders_of (handles_below k hs) m) (holders_of (handles_below k hs) (m + 1))) e
 
-      pub may-hold : HaveRoom hs old → MayHold mid names
+      pub may-hold : HaveRoom hs old → MayBeHeld names (object_at mid names)
       may-hold room = by_old (object_at old names) refl (room.there k names named)
         where
-          by_old : (x : Option (Kept Kind)) → object_at old names ≡ x → IsSome x → MayHold mid names
+          by_old : (x : Option (Kept Kind)) → object_at old names ≡ x → IsSome x → MayBeHeld names (object_at mid names)
           by_old None e some = absurd (cc)
           by_old (Some was) e some =
               subst (λ (x : Option (Kept Kind)). IsSomeAnd x (λ kept. (kept.holders < 4160)
@@ -180,7 +181,7 @@ module _ (hs : List Handle) (rising : AreRisingFrom 1 hs) (old : Table Kind) whe
               ends_fit (kind.Process w slot) a b = omega arith
               ends_fit (kind.Terminal terminal) a b = omega arith
 
-      pub holds-next : (new : Table Kind) → IsSome (object_at old names) → HoldsOne mid new names
+      pub holds-next : (new : Table Kind) → IsSome (object_at old names) → Changes mid new names (held_by names (object_at mid names))
           → HoldsBelow hs (k + 1) old new
       holds-next new some one o = by_old (object_at old names) refl some
         where
@@ -194,7 +195,7 @@ module _ (hs : List Handle) (rising : AreRisingFrom 1 hs) (old : Table Kind) whe
               let b : ℕ = holders_of (handles_below k hs) (m + 1) in
               let mid_is : object_at mid names ≡
               Some (record { object = kind_with a b was.object; holders = was.holders + (a + b) }) = stands was e in
-              let change : Changes mid new names (Some (kept_more names (record {
+              let change : Changes mid new names (Some (held_more names (record {
                 object = kind_with a b was.object;
                 holders = was.holders + (a + b);
               }))) = rw mid_is at one in

@@ -1,12 +1,12 @@
 -- The threads of a slot, by the tables.
-use Rattle.std.proofs.Common.{◌≡◌, ◌≢◌, ◌∙◌, ◌↔◌, ℕ, true, false, nat_eq, Option, Some, None, IsSome, IsTrue, refl, sym, ap}
+use Rattle.std.proofs.Common.{◌≡◌, ◌≢◌, ◌∙◌, ◌↔◌, ℕ, true, false, nat_eq, Option, Some, None, IsSome, IsTrue, MatchOption, refl, sym}
+use Rattle.std.proofs.Common.{ap}
 use Rattle.std.proofs.Common.{◌≤◌, Bool, not, arith}
 use Rattle.std.proofs.lemmas.Bool.{eqb-true}
 use Rattle.std.specs.Option.{option_eq}
 use Rattle.win32_spec.specs.State.{Process}
 use Rattle.win32_spec.specs.Lookup.{process_in, thread_of, thread_at, number_of, number_in}
 use Rattle.win32_spec.specs.LookupLaws.{same}
-use Rattle.w32_process.specs.SoundLaws.{within_slots}
 use Rattle.w32_process.specs.Table.{number_at, count_at}
 use Rattle.w32_process.specs.ThreadLaws.{thread_shown}
 use Rattle.w32_machine.specs.declared.machine.Machine.TheInside.{Inside}
@@ -19,6 +19,13 @@ use Rattle.w32_machine.proofs.Readiness.{thread-at}
 none_of : (o : Option Process) → number_of o ≡ None → o ≡ None
 none_of None e = refl
 none_of (Some p) e = absurd (cc)
+
+-- the slot in which a process lives, or none
+pub slot-now : (m : Inside) (sound : IsSound m) (now : Running) (shows : view_of m ≡ now) (found : Option ℕ) (w : ℕ)
+    → MatchOption found (IsInNone m.processes.slots w) (λ slot. number_at m.processes.slots slot ≡ Some w)
+    → MatchOption found ((k : ℕ) → number_in now.win32 k ≢ Some w) (λ slot. number_in now.win32 slot ≡ Some w)
+slot-now m sound now shows None w none = λ k e. none k (numbers m sound now shows k ∙ e)
+slot-now m sound now shows (Some slot) w at = sym (numbers m sound now shows slot) ∙ at
 
 module _ (m : Inside) (sound : IsSound m) (now : Running) (shows : view_of m ≡ now) (slot t : ℕ) where
   uncounted : number_at m.processes.slots slot ≡ None → count_at m.processes.slots slot t ≡ None
@@ -44,12 +51,6 @@ module _ (m : Inside) (sound : IsSound m) (now : Running) (shows : view_of m ≡
           thread-at m sound now shows slot w t (sym (numbers m sound now shows slot) ∙ f)
           ∙ ap (thread_shown (posted_in m.posted.items slot) t) e
 
--- no process stands in a slot past the last one
-pub few-slots : (m : Inside) → IsSound m → (now : Running) → view_of m ≡ now → (k w : ℕ)
-    → number_in now.win32 k ≡ Some w → k ≤ 64
-few-slots m sound now shows k w e =
-    omega (arith, within_slots m.processes.slots k w (numbers m sound now shows k ∙ e), sound.table.few)
-
 pub some-iff : {X : Type 0} (o : Option X) → IsSome o → IsTrue true ↔ IsSome o
 some-iff o s = (λ e. s, λ s. refl)
 
@@ -58,11 +59,11 @@ none-iff None e = (λ f. absurd (cc), λ s. absurd (cc))
 none-iff (Some x) e = absurd (cc)
 
 -- a number that was compared
-pub is-number : (o : Option ℕ) (w : ℕ) → option_eq nat_eq o (Some w) ≡ true → o ≡ Some w
+is-number : (o : Option ℕ) (w : ℕ) → option_eq nat_eq o (Some w) ≡ true → o ≡ Some w
 is-number None w e = absurd (cc)
 is-number (Some v) w e = ap (λ n. Some n) (eqb-true v w e)
 
-pub is-other : (o : Option ℕ) (w : ℕ) → option_eq nat_eq o (Some w) ≡ false → o ≢ Some w
+is-other : (o : Option ℕ) (w : ℕ) → option_eq nat_eq o (Some w) ≡ false → o ≢ Some w
 is-other o w e f =
     let s = same w w refl in
     let g : option_eq nat_eq o (Some w) ≡ true = rw f s in absurd (cc)

@@ -1,30 +1,14 @@
 -- What a process that is made does to the objects that its handles name.
-use Rattle.std.specs.Prelude.{◌≡◌, ℕ, ◌+◌, ◌*◌, ◌≤◌, ◌<◌, List, Option, Some, None, IsSome, IfSome, slice_set}
-use Rattle.std.specs.Option.{IsSomeAnd}
+use Rattle.std.specs.Prelude.{◌≡◌, ℕ, ◌+◌, ◌*◌, ◌≤◌, List, Option, Some, None, IsSome, slice_set}
 use Rattle.w32_base.specs.declared.call.Call.{Call}
 use Rattle.win32_spec.specs.Handles.{Handle, handle_of, holders_of, AreRisingFrom}
 use Rattle.win32_spec.specs.Lookup.{object_number}
 use Rattle.win32_spec.specs.Making.{opening_call}
-use Rattle.w32_handles.specs.Table.{Kept, Table, object_at, Changes}
+use Rattle.w32_handles.specs.Table.{Kept, Table, object_at}
 use Rattle.w32_sync.specs.declared.PipeEnd.TheVariants.{Read, Write}
 use Rattle.w32_machine.specs.declared.kind.Kind.{Kind}
 use Rattle.w32_machine.specs.declared.kind.Kind.TheVariants as kind
-use Rattle.w32_machine.specs.Kinds.{ends_on, with_ends}
-use Rattle.w32_machine.specs.Ending.{end_by}
-
--- the object is there, and a handle more may name it by the end that the number tells
-abbrev pub MayHold : Table Kind → ℕ → Type 0
-MayHold t o = IsSomeAnd (object_at t o) (λ kept. (kept.holders < 4160) × (ends_on kept.object (end_by o) < 4160))
-
--- an object that a handle more names
-abbrev pub kept_more : ℕ → Kept Kind → Kept Kind
-kept_more o kept = record {
-  object = with_ends kept.object (end_by o) (ends_on kept.object (end_by o) + 1);
-  holders = kept.holders + 1;
-}
-
-abbrev pub HoldsOne : Table Kind → Table Kind → ℕ → Type 0
-HoldsOne old new o = IfSome (object_at old o) (λ kept. Changes old new o (Some (kept_more o kept)))
+use Rattle.w32_machine.specs.Kinds.{ends_on}
 
 -- an object that so many handles more name by its first end, and so many by its second
 abbrev pub kind_with : ℕ → ℕ → Kind → Kind

@@ -6,23 +6,17 @@ use Rattle.win32_spec.specs.State.{Object, Win32State}
 use Rattle.win32_spec.specs.Lookup.{number_in}
 use Rattle.win32_spec.specs.Ends.{is_object_of}
 use Rattle.win32_spec.specs.ProcessCalls.{process_object}
-use Rattle.win32_spec.specs.Ready.{is_first_end}
 use Rattle.w32_handles.specs.Table.{Kept}
-use Rattle.w32_sync.specs.declared.pipe.PipeEnd.{PipeEnd}
-use Rattle.w32_sync.specs.declared.pipe.PipeEnd.TheVariants.{Read, Write}
 use Rattle.w32_machine.specs.declared.caller.Caller.{Caller}
 use Rattle.w32_machine.specs.declared.kind.Kind.{Kind}
 use Rattle.w32_machine.specs.declared.kind.Kind.TheVariants as kind
+use Rattle.w32_machine.specs.Ending.{end_by}
 use Rattle.w32_machine.specs.Kinds.{ends_on, with_ends}
-
--- the end that a number names
-abbrev pub named_end : ℕ → PipeEnd
-named_end o = if is_first_end o then Read else Write
 
 -- an object with a holder more, by the end that the number names
 abbrev pub held_more : ℕ → Kept Kind → Kept Kind
 held_more o kept = record {
-  object = with_ends kept.object (named_end o) (ends_on kept.object (named_end o) + 1);
+  object = with_ends kept.object (end_by o) (ends_on kept.object (end_by o) + 1);
   holders = kept.holders + 1;
 }
 
@@ -32,7 +26,7 @@ held_by o (Some kept) = Some (held_more o kept)
 
 -- there is room for a holder more of an object
 abbrev pub MayBeHeld : ℕ → Option (Kept Kind) → Type 0
-MayBeHeld o found = IsSomeAnd found (λ kept. (kept.holders < 4160) × (ends_on kept.object (named_end o) < 4160))
+MayBeHeld o found = IsSomeAnd found (λ kept. (kept.holders < 4160) × (ends_on kept.object (end_by o) < 4160))
 
 -- A new object of a caller that fits the state: a mutex is the caller's or free, a pipe has one handle on its read end,
 -- and the object of a process is the first one of a process that lives in its slot.

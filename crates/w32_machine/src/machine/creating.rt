@@ -5,13 +5,14 @@ ghost use Rattle.win32_spec.specs.Lookup.{IsLowestFreeSlot, AreAllOccupied};
 ghost use Rattle.win32_spec.specs.ProcessCalls.{CreateStep};
 ghost use Rattle.win32_spec.specs.Making.{opening_call};
 ghost use Rattle.w32_machine.specs.Contract.{IsCaller};
-ghost use Rattle.w32_machine.specs.Creating.{MayHold, HoldsOne, HoldsEach, HaveRoom, opened};
+ghost use Rattle.w32_machine.specs.Creating.{HoldsEach, HaveRoom, opened};
 
 use crate::caller::Caller;
-use crate::kind::{Kind, end_of};
+use crate::kind::Kind;
+use crate::machine::making::hold_object;
 use crate::machine::{Machine, place};
 use crate::placements::Placements;
-use w32_base::{Call, HandleList, HandleNo, ObjectNo, Reply, Slot, ThreadNo};
+use w32_base::{Call, HandleList, HandleNo, Reply, Slot, ThreadNo};
 use w32_handles::{Handles, Objects};
 
 /// The highest number that a handle may have.
@@ -69,16 +70,6 @@ impl Machine {
     }
 }
 
-// A handle more names an object, by the end that the number tells.
-fn hold(objects: &mut Objects<Kind>, o: ObjectNo)
-    requires { MayHold objects.old o }
-    ensures held { HoldsOne objects.old objects.new o }
-    ensures spare { objects.new.spare ≡ objects.old.spare }
-{
-    objects.get_mut(o).hold(end_of(o));
-    objects.hold(o);
-}
-
 // Each of the handles more names its object.
 fn hold_all(objects: &mut Objects<Kind>, handles: &Handles)
     requires { HaveRoom handles.now objects.old }
@@ -87,7 +78,7 @@ fn hold_all(objects: &mut Objects<Kind>, handles: &Handles)
 {
     for number in 1..LAST_HANDLE + 1 {
         if let Some(o) = handles.get(HandleNo::new(number)) {
-            hold(objects, o);
+            hold_object(objects, o);
         }
     }
 }

@@ -1,6 +1,6 @@
 //! What a machine that is driven by parts asks of the machine.
 
-ghost use Rattle.std.specs.Prelude.{◌≡◌, ◌≢◌, ℕ, ◌≤◌, ◌↔◌, Some, IsTrue, IsSome, MatchOption};
+ghost use Rattle.std.specs.Prelude.{◌≡◌, ◌≢◌, ℕ, ◌↔◌, Some, IsTrue, IsSome, MatchOption};
 ghost use Rattle.win32_spec.specs.Driven.{PartGoes};
 ghost use Rattle.win32_spec.specs.Lookup.{thread_at, number_in};
 ghost use Rattle.win32_spec.specs.WellFormed.{IsWellFormed};
@@ -9,18 +9,15 @@ ghost use Rattle.w32_machine.specs.Driving.{IsAnswer, HasFewThreads, ToldOf, Tol
 
 use crate::caller::Caller;
 use crate::machine::Machine;
+use crate::machine::finding::slot_of;
 use script_spec::Script;
 use w32_base::{After, Event, Reply, Setup, Slot, ThreadNo, Whole, WinNo};
-
-/// How many slots there may be.
-const SLOTS: u8 = 65;
 
 impl Machine {
     // The number of the process in a slot. The state is well formed.
     pub(crate) fn stands_in(&self, slot: Slot) -> Option<WinNo>
         ensures value { result ≡ number_in self.now.win32 slot }
         ensures formed { IsWellFormed self.now.script self.now.win32 }
-        ensures few { (k w : ℕ) → number_in self.now.win32 k ≡ Some w → k ≤ 64 }
     {
         self.processes.in_slot(slot)
     }
@@ -41,13 +38,7 @@ impl Machine {
         ensures { MatchOption result ((k : ℕ) → number_in self.now.win32 k ≢ Some w)
             (λ slot. number_in self.now.win32 slot ≡ Some w) }
     {
-        for place in 0..SLOTS {
-            let slot = Slot::new(place);
-            if self.stands_in(slot) == Some(w) {
-                return Some(slot);
-            }
-        }
-        None
+        slot_of(&self.processes, w)
     }
 
     // The slot of the process that a reply tells of as made, or none where it tells of none.

@@ -164,7 +164,7 @@ fn new_pipe() -> Pipe
 }
 
 // A holder more of an object, by the end that the number names.
-fn hold_object(objects: &mut Objects<Kind>, o: ObjectNo)
+pub(super) fn hold_object(objects: &mut Objects<Kind>, o: ObjectNo)
     requires { MayBeHeld o (object_at objects.old o) }
     ensures held { Changes objects.old objects.new o (held_by o (object_at objects.old o)) }
     ensures spare { objects.new.spare ≡ objects.old.spare }

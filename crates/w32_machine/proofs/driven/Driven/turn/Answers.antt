@@ -53,10 +53,12 @@ invariant_of-self-2 g c = record {
       (record { win32 = c.self.inside.machine.win32; parts = c.self.inside.parts.items; last = c.self.inside.last })
       (record { win32 = c.act-turned.new.machine.win32; parts = c.act-turned.new.parts.items; last = c.event-self-inside.result })
       c.args.slot c.args.thread c.act-turned.result c.in-Some.ensures.ready c.event-self-inside.ensures
-      (subst (λ a. DoneBy g.P.Part.posted_of g.P.Part.goes g.P.Whole.opening g.P.Whole.slot_of g.P.Whole.thread_of c.self.inside.machine.script
+      (subst (λ a. DoneBy g.P.Part.posted_of g.P.Part.goes g.P.Whole.opening g.P.Whole.slot_of
+      g.P.Whole.thread_of c.self.inside.machine.script
       c.self.inside.machine.win32 c.self.inside.parts.items a c.args.thread c.act-turned.result
       c.act-turned.new.machine.win32 c.act-turned.new.parts.items) c.in-Some.ensures.slot_is
-      (subst (λ b. DoneBy g.P.Part.posted_of g.P.Part.goes g.P.Whole.opening g.P.Whole.slot_of g.P.Whole.thread_of c.self.inside.machine.script
+      (subst (λ b. DoneBy g.P.Part.posted_of g.P.Part.goes g.P.Whole.opening g.P.Whole.slot_of
+      g.P.Whole.thread_of c.self.inside.machine.script
       c.self.inside.machine.win32 c.self.inside.parts.items c.in-Some.next.0.slot b c.act-turned.result
       c.act-turned.new.machine.win32 c.act-turned.new.parts.items) c.in-Some.ensures.thread_is
       c.act-turned.ensures.turned)));
@@ -71,10 +73,12 @@ returns-clause-driven g c =
     (record { win32 = c.self.inside.machine.win32; parts = c.self.inside.parts.items; last = c.self.inside.last })
     (record { win32 = c.act-turned.new.machine.win32; parts = c.act-turned.new.parts.items; last = c.event-self-inside.result })
     c.args.slot c.args.thread c.act-turned.result c.in-Some.ensures.ready c.event-self-inside.ensures
-    (subst (λ a. DoneBy g.P.Part.posted_of g.P.Part.goes g.P.Whole.opening g.P.Whole.slot_of g.P.Whole.thread_of c.self.inside.machine.script
+    (subst (λ a. DoneBy g.P.Part.posted_of g.P.Part.goes g.P.Whole.opening g.P.Whole.slot_of
+    g.P.Whole.thread_of c.self.inside.machine.script
     c.self.inside.machine.win32 c.self.inside.parts.items a c.args.thread c.act-turned.result
     c.act-turned.new.machine.win32 c.act-turned.new.parts.items) c.in-Some.ensures.slot_is
-    (subst (λ b. DoneBy g.P.Part.posted_of g.P.Part.goes g.P.Whole.opening g.P.Whole.slot_of g.P.Whole.thread_of c.self.inside.machine.script
+    (subst (λ b. DoneBy g.P.Part.posted_of g.P.Part.goes g.P.Whole.opening g.P.Whole.slot_of
+    g.P.Whole.thread_of c.self.inside.machine.script
     c.self.inside.machine.win32 c.self.inside.parts.items c.in-Some.next.0.slot b c.act-turned.result
     c.act-turned.new.machine.win32 c.act-turned.new.parts.items) c.in-Some.ensures.thread_is
     c.act-turned.ensures.turned)))
@@ -92,10 +96,12 @@ returns-clause-step g c =
     (record { win32 = c.self.inside.machine.win32; parts = c.self.inside.parts.items; last = c.self.inside.last })
     (record { win32 = c.act-turned.new.machine.win32; parts = c.act-turned.new.parts.items; last = c.event-self-inside.result })
     c.args.slot c.args.thread c.act-turned.result c.in-Some.ensures.ready c.event-self-inside.ensures
-    (subst (λ a. DoneBy g.P.Part.posted_of g.P.Part.goes g.P.Whole.opening g.P.Whole.slot_of g.P.Whole.thread_of c.self.inside.machine.script
+    (subst (λ a. DoneBy g.P.Part.posted_of g.P.Part.goes g.P.Whole.opening g.P.Whole.slot_of
+    g.P.Whole.thread_of c.self.inside.machine.script
     c.self.inside.machine.win32 c.self.inside.parts.items a c.args.thread c.act-turned.result
     c.act-turned.new.machine.win32 c.act-turned.new.parts.items) c.in-Some.ensures.slot_is
-    (subst (λ b. DoneBy g.P.Part.posted_of g.P.Part.goes g.P.Whole.opening g.P.Whole.slot_of g.P.Whole.thread_of c.self.inside.machine.script
+    (subst (λ b. DoneBy g.P.Part.posted_of g.P.Part.goes g.P.Whole.opening g.P.Whole.slot_of
+    g.P.Whole.thread_of c.self.inside.machine.script
     c.self.inside.machine.win32 c.self.inside.parts.items c.in-Some.next.0.slot b c.act-turned.result
     c.act-turned.new.machine.win32 c.act-turned.new.parts.items) c.in-Some.ensures.thread_is
     c.act-turned.ensures.turned))))

@@ -17,10 +17,13 @@ returns-clause-here g c =
     (three_set parts slot c.place.result c.place-2.result c.place-3.result c.requires within first second third
     c.part_of.result c.part_of-2.result c.part_of-3.result)
     c.part_of.result c.part_of-2.result c.part_of-3.result
-    (subst (λ n. OpensPart g.P.Part.posted_of g.P.Part.goes g.P.Whole.opening g.P.Whole.slot_of g.P.Whole.thread_of (thread_at s slot n) slot n c.part_of.result) c.new.ensures c.part_of.ensures.opened)
-    (subst (λ n. OpensPart g.P.Part.posted_of g.P.Part.goes g.P.Whole.opening g.P.Whole.slot_of g.P.Whole.thread_of (thread_at s slot n) slot n c.part_of-2.result) c.new-3.ensures
+    (subst (λ n. OpensPart g.P.Part.posted_of g.P.Part.goes g.P.Whole.opening g.P.Whole.slot_of
+    g.P.Whole.thread_of (thread_at s slot n) slot n c.part_of.result) c.new.ensures c.part_of.ensures.opened)
+    (subst (λ n. OpensPart g.P.Part.posted_of g.P.Part.goes g.P.Whole.opening g.P.Whole.slot_of
+    g.P.Whole.thread_of (thread_at s slot n) slot n c.part_of-2.result) c.new-3.ensures
     c.part_of-2.ensures.opened)
-    (subst (λ n. OpensPart g.P.Part.posted_of g.P.Part.goes g.P.Whole.opening g.P.Whole.slot_of g.P.Whole.thread_of (thread_at s slot n) slot n c.part_of-3.result) c.new-5.ensures
+    (subst (λ n. OpensPart g.P.Part.posted_of g.P.Part.goes g.P.Whole.opening g.P.Whole.slot_of
+    g.P.Whole.thread_of (thread_at s slot n) slot n c.part_of-3.result) c.new-5.ensures
     c.part_of-3.ensures.opened)
     (set_first parts slot c.place.result c.place-2.result c.place-3.result c.requires within first second third
     c.part_of.result c.part_of-2.result c.part_of-3.result)

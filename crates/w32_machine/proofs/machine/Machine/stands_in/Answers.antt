@@ -1,11 +1,7 @@
 use Rattle.std.proofs.Common.{◌∙◌}
 use Rattle.w32_machine.proofs.Processes.{numbers}
-use Rattle.w32_machine.proofs.Threads.{few-slots}
 use Rattle.w32_machine.proofs.machine.Machine.stands_in.Goals as goal
 
 pub returns-clause-value : goal.returns-clause-value
 returns-clause-value c =
     c.in_slot.ensures.value ∙ numbers c.self.inside c.self.invariant c.args.self.now c.self.view_is c.args.slot
-
-pub returns-clause-few : goal.returns-clause-few
-returns-clause-few c = few-slots c.self.inside c.self.invariant c.args.self.now c.self.view_is

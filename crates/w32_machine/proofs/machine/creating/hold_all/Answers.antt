@@ -10,8 +10,8 @@ loop-number-init c = record {
   spare = refl;
 }
 
-pub hold-requires : goal.hold-requires
-hold-requires c =
+pub hold_object-requires : goal.hold_object-requires
+hold_object-requires c =
     may-hold c.args.handles.now c.requires.rising c.args.objects.now c.loop-number.number c.loop-number.objects
     c.loop-number.invariant.holds c.in-Some.o
     (ap (handle_of c.args.handles.now) (sym c.new.ensures) ∙ sym c.get.ensures.named ∙ c.in-Some.is) c.requires
@@ -25,9 +25,9 @@ loop-number-preserved c =
             holds = subst (HoldsBelow c.args.handles.now (c.loop-number.number + 1) c.args.objects.now)
                 (sym w.objects-is)
                 (holds-next c.args.handles.now c.requires.rising c.args.objects.now c.loop-number.number
-                c.loop-number.objects c.loop-number.invariant.holds w.in-Some.o named w.hold.new.objects
-                (c.requires.there c.loop-number.number w.in-Some.o named) w.hold.ensures.held);
-            spare = ap (λ t. t.spare) w.objects-is ∙ w.hold.ensures.spare ∙ c.loop-number.invariant.spare;
+                c.loop-number.objects c.loop-number.invariant.holds w.in-Some.o named w.hold_object.new.objects
+                (c.requires.there c.loop-number.number w.in-Some.o named) w.hold_object.ensures.held);
+            spare = ap (λ t. t.spare) w.objects-is ∙ w.hold_object.ensures.spare ∙ c.loop-number.invariant.spare;
           }
       | in_default w ↦ record {
         holds = subst (HoldsBelow c.args.handles.now (c.loop-number.number + 1) c.args.objects.now) (sym w.objects-is)
