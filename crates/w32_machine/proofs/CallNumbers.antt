@@ -1,6 +1,6 @@
 -- Which slots have other processes after a call.
-use Rattle.std.proofs.Common.{◌≡◌, ◌≢◌, ◌⊎◌, inl, inr, ◌∙◌, ℕ, Bool, List, Option, Some, None, MatchOption, refl, sym, ap}
-use Rattle.std.proofs.Common.{subst, [], ◌∷◌, ◌&&◌, not, slice_get, slice_index}
+use Rattle.std.proofs.Common.{◌≡◌, ◌∙◌, ℕ, Bool, List, Option, Some, None, MatchOption, refl, ap}
+use Rattle.std.proofs.Common.{[], ◌∷◌, ◌&&◌, not, slice_get, slice_index}
 use Rattle.tty_spec.specs.Terminal.{Terminal}
 use Rattle.tty_spec.specs.Discipline.{after_take, after_key, has_flag, tostop_flag}
 use Rattle.w32_base.specs.declared.call.Call.{Call}
@@ -13,11 +13,11 @@ use Rattle.w32_base.specs.declared.call.TtyOp.TheVariants as tty
 use Rattle.script_spec.specs.declared.script.Script.{Script}
 use Rattle.win32_spec.specs.Objects.{is_owner}
 use Rattle.win32_spec.specs.Regions.{written}
-use Rattle.win32_spec.specs.State.{Object, Event, Mutex, Pipe, ProcessObject, Thread, PlacedModule, Process, Win32State}
+use Rattle.win32_spec.specs.State.{Object, Event, Pipe, ProcessObject, Thread, Process, Win32State}
 use Rattle.win32_spec.specs.Lookup.{process_of, is_live, process_in, thread_in, number_of, memory_by, change_process}
 use Rattle.win32_spec.specs.Lookup.{change_thread, with_own, with_thread, with_process, with_handles}
 use Rattle.win32_spec.specs.Lookup.{with_object, with_new_object}
-use Rattle.win32_spec.specs.Ends.{held_objects, objects_left_by, ended_process, swept}
+use Rattle.win32_spec.specs.Ends.{held_objects, swept}
 use Rattle.win32_spec.specs.Handles.{Handle, handle_of, with_handle}
 use Rattle.win32_spec.specs.Named.{handles_by, named_by, object_by, event_named, mutex_named, process_named}
 use Rattle.win32_spec.specs.Named.{terminal_named, has_absent, is_full, Gives, GetsHandle, MakesObject}

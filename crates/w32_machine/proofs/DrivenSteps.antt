@@ -1,5 +1,5 @@
 -- What a turn came to is the step of its directive.
-use Rattle.std.proofs.Common.{◌≡◌, ℕ, true, false, Option, None, refl, sym, subst}
+use Rattle.std.proofs.Common.{◌≡◌, ℕ, true, false, None, refl, sym, subst}
 use Rattle.w32_base.specs.declared.call.Call.{Call}
 use Rattle.w32_base.specs.declared.call.Reply.{Reply}
 use Rattle.w32_base.specs.declared.entry.Directive.TheVariants as directive

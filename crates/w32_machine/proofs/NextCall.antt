@@ -1,12 +1,12 @@
 -- The call that a turn carries out.
-use Rattle.std.proofs.Common.{◌≡◌, ◌∙◌, ℕ, Bool, true, false, ◌&&◌, nat_eq, if◌then◌else◌, List, [], ◌∷◌, Option}
+use Rattle.std.proofs.Common.{◌≡◌, ◌∙◌, ℕ, Bool, true, false, nat_eq, if◌then◌else◌, List, [], ◌∷◌, Option}
 use Rattle.std.proofs.Common.{Some, None, IsSome, IfSome, ◌≤◌, refl, sym, ap, subst}
 use Rattle.std.proofs.lemmas.Bool.{eqb-true}
 use Rattle.w32_base.specs.declared.call.Call.{Call}
 use Rattle.w32_base.specs.declared.call.Reply.{Reply}
 use Rattle.script_spec.specs.declared.script.Script.{Script}
 use Rattle.win32_spec.specs.State.{Thread, Process, Win32State}
-use Rattle.win32_spec.specs.Lookup.{process_of, process_in, thread_in, thread_of, thread_at, number_of, number_in}
+use Rattle.win32_spec.specs.Lookup.{process_in, thread_in, thread_of, thread_at, number_of, number_in}
 use Rattle.win32_spec.specs.LookupLaws.{and_true, process_in-found}
 use Rattle.win32_spec.specs.Named.{handles_of, handles_by}
 use Rattle.win32_spec.specs.Call.{CallStep}
@@ -14,7 +14,6 @@ use Rattle.win32_spec.specs.Ready.{may_go, is_thread_ready, is_process_ready, is
 use Rattle.win32_spec.specs.Run.{IsThread, CarriesOut}
 use Rattle.win32_spec.specs.WellFormed.{IsFormed, IsWellFormed}
 use Rattle.w32_machine.specs.declared.caller.Caller.{Caller}
-use Rattle.w32_machine.specs.Contract.{IsCaller}
 use Rattle.w32_machine.specs.Running.{Running}
 use Rattle.w32_machine.specs.Turning.{IsNextCall}
 

@@ -1,6 +1,6 @@
 -- Which processes stand in which slots after a change of the processes.
 use Rattle.std.proofs.Common.{◌≡◌, ◌≢◌, ◌∙◌, ℕ, Bool, true, false, if◌then◌else◌, ◌&&◌, ◌||◌, nat_eq, List, [], ◌∷◌}
-use Rattle.std.proofs.Common.{◌⊎◌, inl, inr, Option, Some, None, refl, sym, ap, subst}
+use Rattle.std.proofs.Common.{◌⊎◌, inl, inr, Some, None, refl, sym, ap}
 use Rattle.std.proofs.lemmas.Bool.{cases_eq}
 use Rattle.win32_spec.specs.State.{NumberedObject, Process}
 use Rattle.win32_spec.specs.Lookup.{is_alive, process_in, change_process, add_process, number_of}

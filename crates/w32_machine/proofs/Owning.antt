@@ -25,7 +25,7 @@ use Rattle.w32_machine.specs.declared.machine.Machine.TheInside.{Inside}
 use Rattle.w32_machine.specs.Running.{Running}
 use Rattle.w32_machine.specs.View.{posted_in, placed_in, view_of}
 use Rattle.w32_machine.specs.Sound.{IsSound}
-use Rattle.w32_machine.proofs.Slots.{live, caller-at, memory_at}
+use Rattle.w32_machine.proofs.Slots.{live}
 use Rattle.w32_machine.specs.Driving.{IsAnswer}
 use Rattle.w32_machine.proofs.Keeping.{sound-over}
 use Rattle.w32_machine.proofs.Numbers.{change-here}

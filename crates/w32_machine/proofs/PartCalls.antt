@@ -1,5 +1,5 @@
 -- Parts follow the processes that a call made or ended.
-use Rattle.std.proofs.Common.{◌≡◌, ◌≢◌, ◌⊎◌, inl, inr, ◌∙◌, ℕ, Option, Some, None, MatchOption, refl, sym, ap, subst}
+use Rattle.std.proofs.Common.{◌≡◌, ◌≢◌, ◌⊎◌, inl, inr, ◌∙◌, ℕ, Some, None, refl, sym, ap, subst}
 use Rattle.std.proofs.lemmas.Bool.{cases_eq}
 use Rattle.w32_base.specs.declared.call.Call.{Call}
 use Rattle.w32_base.specs.declared.call.Call.TheVariants as call
@@ -13,7 +13,7 @@ use Rattle.win32_spec.specs.State.{Win32State}
 use Rattle.win32_spec.specs.Lookup.{number_in}
 use Rattle.win32_spec.specs.Named.{object_by, process_named}
 use Rattle.win32_spec.specs.Call.{CallStep}
-use Rattle.win32_spec.specs.Driven.{Parts, part_at, AllFollow}
+use Rattle.win32_spec.specs.Driven.{Parts, AllFollow}
 use Rattle.win32_spec.specs.WellFormed.{IsFormed}
 use Rattle.w32_machine.specs.declared.caller.Caller.{Caller}
 use Rattle.w32_machine.specs.Contract.{IsCaller, LivesOnlyIn}

@@ -1,5 +1,5 @@
 -- A turn of a thread with its part.
-use Rattle.std.proofs.Common.{◌≡◌, ◌≢◌, ◌⊎◌, inl, inr, ◌∙◌, ℕ, Bool, true, false, nat_eq, Option, Some, None, MatchBool}
+use Rattle.std.proofs.Common.{◌≡◌, ◌≢◌, ◌⊎◌, inl, inr, ◌∙◌, ℕ, Bool, true, false, Option, Some, None, MatchBool}
 use Rattle.std.proofs.Common.{MatchOption, IsSome, refl, sym, ap, subst, arith}
 use Rattle.std.proofs.lemmas.Bool.{cases_eq}
 use Rattle.w32_base.specs.declared.call.Call.{Call}
@@ -15,7 +15,7 @@ use Rattle.win32_spec.specs.Lookup.{process_of, is_live, process_in, thread_in, 
 use Rattle.win32_spec.specs.Lookup.{change_process, change_thread}
 use Rattle.win32_spec.specs.Call.{CallStep}
 use Rattle.win32_spec.specs.Run.{IsThread, PostedStep, EndStep, ended_from_outside}
-use Rattle.win32_spec.specs.Driven.{Parts, part_at, Serves, AreServed, OpensPart, is_same_number, PartFollows}
+use Rattle.win32_spec.specs.Driven.{Parts, part_at, Serves, AreServed, OpensPart, is_same_number}
 use Rattle.win32_spec.specs.Driven.{PartGoes, DrivenTurn, AllFollow}
 use Rattle.win32_spec.specs.WellFormed.{IsFormed, IsWellFormed}
 use Rattle.win32_spec.specs.LookupLaws.{same_some, rising-bounds, process_in-found}

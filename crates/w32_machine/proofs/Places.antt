@@ -1,7 +1,7 @@
 -- The places of parts.
 use Rattle.std.proofs.Common.{◌≡◌, ◌≢◌, ◌⊎◌, inl, inr, ◌∙◌, ℕ, zero, suc, ◌+◌, ◌*◌, ◌≤◌, ◌<◌, Bool, true, false, not}
-use Rattle.std.proofs.Common.{nat_eq, List, [], ◌∷◌, length, Option, Some, None, IsSome, slice_index_or, slice_set}
-use Rattle.std.proofs.Common.{if◌then◌else◌, refl, sym, ap, subst, arith}
+use Rattle.std.proofs.Common.{nat_eq, [], ◌∷◌, length, Option, Some, None, slice_index_or, slice_set}
+use Rattle.std.proofs.Common.{refl, sym, ap, subst, arith}
 use Rattle.std.proofs.lemmas.Bool.{cases_eq, cases_lt}
 use Rattle.std.proofs.lemmas.List.{get_or-set_same, get_or-set_other, length-set}
 use Rattle.std.specs.Option.{option_eq}

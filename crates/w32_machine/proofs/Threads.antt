@@ -1,13 +1,13 @@
 -- The threads of a slot, by the tables.
-use Rattle.std.proofs.Common.{◌≡◌, ◌≢◌, ◌∙◌, ◌↔◌, ℕ, true, false, nat_eq, Option, Some, None, IsSome, IsTrue, MatchOption, refl, sym}
-use Rattle.std.proofs.Common.{ap}
-use Rattle.std.proofs.Common.{◌≤◌, Bool, not, arith}
+use Rattle.std.proofs.Common.{◌≡◌, ◌≢◌, ◌∙◌, ◌↔◌, ℕ, Bool, true, false, not, nat_eq, Option, Some, None, IsSome, IsTrue}
+use Rattle.std.proofs.Common.{MatchOption, refl, sym, ap}
 use Rattle.std.proofs.lemmas.Bool.{eqb-true}
 use Rattle.std.specs.Option.{option_eq}
 use Rattle.win32_spec.specs.State.{Process}
 use Rattle.win32_spec.specs.Lookup.{process_in, thread_of, thread_at, number_of, number_in}
 use Rattle.win32_spec.specs.LookupLaws.{same}
 use Rattle.w32_process.specs.Table.{number_at, count_at}
+use Rattle.w32_process.specs.TableLaws.{IsInNone}
 use Rattle.w32_process.specs.ThreadLaws.{thread_shown}
 use Rattle.w32_machine.specs.declared.machine.Machine.TheInside.{Inside}
 use Rattle.w32_machine.specs.Running.{Running}

@@ -1,8 +1,8 @@
-use Rattle.std.proofs.Common.{◌∙◌, sym, refl}
+use Rattle.std.proofs.Common.{refl}
 use Rattle.w32_machine.proofs.CallNumbers.{call-numbers}
 use Rattle.w32_machine.proofs.Following.{all-same}
 use Rattle.w32_machine.proofs.Made.{keeps-processes}
-use Rattle.w32_machine.proofs.PartCalls.{terminate-slot, terminate-none, exit-slot}
+use Rattle.w32_machine.proofs.PartCalls.{terminate-slot, exit-slot}
 use Rattle.w32_machine.proofs.driven.carry_out.Goals as goal
 
 pub end_in-requires-clause-ends : goal.end_in-requires-clause-ends

@@ -1,6 +1,5 @@
 use Rattle.std.proofs.Common.{None, refl, sym, subst}
 use Rattle.w32_base.specs.declared.entry.Directive.TheVariants as directive
-use Rattle.win32_spec.specs.Driven.{AllFollow}
 use Rattle.win32_spec.specs.MemoryEffects.{HaveRegisters}
 use Rattle.win32_spec.specs.ServedSteps.{served-step}
 use Rattle.w32_machine.specs.Ending.{outcome_of_end}
