@@ -8,12 +8,15 @@ use Rattle.w32_base.specs.declared.entry.End.{End}
 use Rattle.w32_base.specs.declared.entry.End.TheVariants.{Quiet, Given, Budget}
 use Rattle.w32_base.specs.declared.instr.Instr.{Instr}
 use Rattle.cyg_io.specs.Counts.{Rose}
-use Rattle.cyg_cli.specs.Top.{Outside, Ends, OtherWords, ReadFault, NoMemory, Refused, RefusedInPart, Logged, LoggedInPart, Runs, IsUnbuilt, IsScriptOf, IsJournalOf, IsRunOrShort, enough_turns, status_of}
-use Rattle.cyg_cli.specs.Top.{Made, MadeInPart, NotMade, IsUntouched}
+use Rattle.cyg_cli.specs.Outside.{Outside}
+use Rattle.cyg_cli.specs.Top.{Ends, OtherWords, ReadFault, NoMemory, Refused, RefusedInPart, Logged, LoggedInPart, Runs, IsUnbuilt, IsScriptOf, IsJournalOf, IsRunOrShort, enough_turns, status_of}
+use Rattle.cyg_cli.specs.Top.{Checked, Made, MadeInPart, NotMade, IsUntouched}
+use Rattle.cyg_cli.specs.Checks.{Checks, IsDenied}
+use Rattle.cyg_cli.proofs.CheckStatuses as check
 use Rattle.cyg_cli.specs.TopParts.{IsMaking}
 use Rattle.world_gen.specs.Forks.{IsForking}
 use Rattle.cyg_cli.specs.declared.commands.Command.{Command}
-use Rattle.cyg_cli.specs.declared.commands.Command.TheVariants.{RunCalls, Make}
+use Rattle.cyg_cli.specs.declared.commands.Command.TheVariants.{RunCalls, Check, Make}
 use Rattle.cyg_cli.specs.Commands.{Asks, IsNoCommand}
 
 abbrev IsNotRun : ℕ → List ℕ → Type 0
@@ -39,6 +42,18 @@ run_is_not_make e = cc
 pub run_no_make : (words : List (List ℕ)) (n : ℕ) → Asks words RunCalls → Asks words (Make n) → ⊥
 run_no_make words n r m = run_is_not_make (ap first_word (sym r.spelled ∙ m.spelled))
 
+run_is_not_check : codes "run" ≡ codes "check" → ⊥
+run_is_not_check e = cc
+
+check_is_not_make : codes "check" ≡ codes "make" → ⊥
+check_is_not_make e = cc
+
+pub run_no_check : (words : List (List ℕ)) → Asks words RunCalls → Asks words Check → ⊥
+run_no_check words r c = run_is_not_check (ap first_word (sym r.spelled ∙ c.spelled))
+
+check_no_make : (words : List (List ℕ)) (n : ℕ) → Asks words Check → Asks words (Make n) → ⊥
+check_no_make words n c m = check_is_not_make (ap first_word (sym c.spelled ∙ m.spelled))
+
 no_command : (words : List (List ℕ)) (command : Command) → IsNoCommand words → Asks words command → ⊥
 no_command words command none asks = none command asks.range asks.spelled
 
@@ -60,6 +75,7 @@ only_scripts words before after status entries (Refused w r app s none) is = oth
 only_scripts words before after status entries (RefusedInPart w r app rose s none) is = other_status before.left status (λ t. omega (arith, t, s)) (λ t. omega (arith, t, s))
 only_scripts words before after status entries (Logged end w r app s) is = script_run status before.left r.budget r.code r.text
 only_scripts words before after status entries (LoggedInPart end w r app rose s) is = other_status before.left status (λ t. omega (arith, t, s)) (λ t. omega (arith, t, s))
+only_scripts words before after status entries (Checked w c none) is = absurd (run_no_check words is w)
 only_scripts words before after status entries (Made n script w forks same app s none) is = absurd (run_no_make words n is w)
 only_scripts words before after status entries (MadeInPart n script w forks same app rose s none) is = absurd (run_no_make words n is w)
 only_scripts words before after status entries (NotMade n w same s none) is = absurd (run_no_make words n is w)
@@ -76,6 +92,7 @@ journal_told words before after status entries (ReadFault w rose same s none) so
 journal_told words before after status entries (NoMemory w same s none) some = absurd (some none)
 journal_told words before after status entries (Refused w r app s none) some = absurd (some none)
 journal_told words before after status entries (RefusedInPart w r app rose s none) some = absurd (some none)
+journal_told words before after status entries (Checked w c none) some = absurd (some none)
 journal_told words before after status entries (Made n script w forks same app s none) some = absurd (some none)
 journal_told words before after status entries (MadeInPart n script w forks same app rose s none) some = absurd (some none)
 journal_told words before after status entries (NotMade n w same s none) some = absurd (some none)
@@ -121,6 +138,7 @@ complete_told words before after status entries (Logged Given w r app s) is read
 complete_told words before after status entries (Logged Budget w r app s) is read write =
     short_of_budget before.left status r.budget r.code s r.text (too_few r.budget r.code r.ends_quiet)
 complete_told words before after status entries (LoggedInPart end w r app rose s) is read write = absurd (write rose)
+complete_told words before after status entries (Checked w c none) is read write = absurd (run_no_check words is w)
 complete_told words before after status entries (Made n script w forks same app s none) is read write = absurd (run_no_make words n is w)
 complete_told words before after status entries (MadeInPart n script w forks same app rose s none) is read write = absurd (run_no_make words n is w)
 complete_told words before after status entries (NotMade n w same s none) is read write = absurd (run_no_make words n is w)
@@ -141,6 +159,7 @@ made_told words before after status entries (Refused w r app s none) n is = absu
 made_told words before after status entries (RefusedInPart w r app rose s none) n is = absurd (run_no_make words n w is)
 made_told words before after status entries (Logged end w r app s) n is = absurd (run_no_make words n w is)
 made_told words before after status entries (LoggedInPart end w r app rose s) n is = absurd (run_no_make words n w is)
+made_told words before after status entries (Checked w c none) n is = absurd (check_no_make words n w is)
 made_told words before after status entries (Made m script w forks same app s none) n is =
     (inl (script, subst (λ k. IsForking k script) (same_make words m n w is) forks, s, app, none), same)
 made_told words before after status entries (MadeInPart m script w forks same app rose s none) n is =
@@ -163,6 +182,49 @@ other_told words before after status entries (Refused w r app s none) = ((λ t. 
 other_told words before after status entries (RefusedInPart w r app rose s none) = ((λ t. absurd (omega (arith, t, s))), (λ no. absurd (no_command words RunCalls no w)))
 other_told words before after status entries (Logged end w r app s) = ((λ t. absurd (not_two end (sym s ∙ t))), (λ no. absurd (no_command words RunCalls no w)))
 other_told words before after status entries (LoggedInPart end w r app rose s) = ((λ t. absurd (omega (arith, t, s))), (λ no. absurd (no_command words RunCalls no w)))
+other_told words before after status entries (Checked w c none) =
+    ((λ t. absurd (check.not_two before after status c t)), (λ no. absurd (no_command words Check no w)))
 other_told words before after status entries (Made n script w forks same app s none) = ((λ t. absurd (omega (arith, t, s))), (λ no. absurd (no_command words (Make n) no w)))
 other_told words before after status entries (MadeInPart n script w forks same app rose s none) = ((λ t. absurd (omega (arith, t, s))), (λ no. absurd (no_command words (Make n) no w)))
 other_told words before after status entries (NotMade n w same s none) = ((λ t. absurd (omega (arith, t, s))), (λ no. absurd (no_command words (Make n) no w)))
+
+-- what words of `check` come to
+pub check_told : (words : List (List ℕ)) (before after : Outside) (status : ℕ) (entries : List Entry)
+    → Ends words before after status entries → Asks words Check → Checks before after status × (entries ≡ [])
+check_told words before after status entries (OtherWords w same s none) is = absurd (no_command words Check w is)
+check_told words before after status entries (ReadFault w rose same s none) is = absurd (run_no_check words w is)
+check_told words before after status entries (NoMemory w same s none) is = absurd (run_no_check words w is)
+check_told words before after status entries (Refused w r app s none) is = absurd (run_no_check words w is)
+check_told words before after status entries (RefusedInPart w r app rose s none) is = absurd (run_no_check words w is)
+check_told words before after status entries (Logged end w r app s) is = absurd (run_no_check words w is)
+check_told words before after status entries (LoggedInPart end w r app rose s) is = absurd (run_no_check words w is)
+check_told words before after status entries (Checked w c none) is = (c, none)
+check_told words before after status entries (Made n script w forks same app s none) is = absurd (check_no_make words n is w)
+check_told words before after status entries (MadeInPart n script w forks same app rose s none) is = absurd (check_no_make words n is w)
+check_told words before after status entries (NotMade n w same s none) is = absurd (check_no_make words n is w)
+
+not_one : (end : End) → status_of end ≡ 1 → ⊥
+not_one Quiet e = cc
+not_one Given e = cc
+not_one Budget e = cc
+
+-- 1 is a status of `check` alone
+asks_check : (words : List (List ℕ)) (before after : Outside) (status : ℕ) (entries : List Entry)
+    → Ends words before after status entries → status ≡ 1 → Asks words Check
+asks_check words before after status entries (OtherWords w same s none) t = absurd (omega (arith, t, s))
+asks_check words before after status entries (ReadFault w rose same s none) t = absurd (omega (arith, t, s))
+asks_check words before after status entries (NoMemory w same s none) t = absurd (omega (arith, t, s))
+asks_check words before after status entries (Refused w r app s none) t = absurd (omega (arith, t, s))
+asks_check words before after status entries (RefusedInPart w r app rose s none) t = absurd (omega (arith, t, s))
+asks_check words before after status entries (Logged end w r app s) t = absurd (not_one end (sym s ∙ t))
+asks_check words before after status entries (LoggedInPart end w r app rose s) t = absurd (omega (arith, t, s))
+asks_check words before after status entries (Checked w c none) t = w
+asks_check words before after status entries (Made n script w forks same app s none) t = absurd (omega (arith, t, s))
+asks_check words before after status entries (MadeInPart n script w forks same app rose s none) t = absurd (omega (arith, t, s))
+asks_check words before after status entries (NotMade n w same s none) t = absurd (omega (arith, t, s))
+
+pub denied_told : (words : List (List ℕ)) (before after : Outside) (status : ℕ) (entries : List Entry)
+    → Ends words before after status entries → status ≡ 1 → Asks words Check × IsDenied before after
+denied_told words before after status entries ends one =
+    let is = asks_check words before after status entries ends one in
+    (is, check.denied before after status (check_told words before after status entries ends is).0 one)

@@ -16,11 +16,13 @@ use Rattle.cyg_io.specs.Counts.{Rose}
 use Rattle.script_spec.specs.declared.script.Script.{Script}
 use Rattle.script_spec.specs.Print.{print_of}
 use Rattle.world_gen.specs.Forks.{IsForking}
-use Rattle.cyg_cli.specs.declared.commands.Command.TheVariants.{RunCalls, Make}
+use Rattle.cyg_cli.specs.declared.commands.Command.TheVariants.{RunCalls, Check, Make}
 use Rattle.cyg_cli.specs.Commands.{Asks}
-use Rattle.cyg_cli.specs.Top.{Made, MadeInPart, NotMade, IsUntouched}
+use Rattle.cyg_cli.specs.Checks.{Checks}
+use Rattle.cyg_cli.specs.Top.{Checked, Made, MadeInPart, NotMade, IsUntouched}
 use Rattle.cyg_cli.specs.TopParts.{IsMaking}
-use Rattle.cyg_cli.specs.Top.{Outside, Ends, Refused, RefusedInPart, Logged, LoggedInPart, NoMemory, Refuses, Runs, IsSettled, enough_turns, IsScriptOf, IsUnbuilt}
+use Rattle.cyg_cli.specs.Outside.{Outside}
+use Rattle.cyg_cli.specs.Top.{Ends, Refused, RefusedInPart, Logged, LoggedInPart, NoMemory, Refuses, Runs, IsSettled, enough_turns, IsScriptOf, IsUnbuilt}
 use Rattle.cyg_cli.specs.TopParts.{IsRefusal, IsLogOf, IsLogging}
 use Rattle.cyg_cli.proofs.Texts.{first_form_short}
 use Rattle.cyg_cli.proofs.Headlines.{code_is, headline_of}
@@ -71,6 +73,12 @@ logging_ends words before after status entries setup text budget code w ended to
     by_log : IsLogOf entries end before.held after.held before.write_faults after.write_faults status entries → Ends words before after status entries
     by_log (inl (s, app, e)) = Logged end w ran app s
     by_log (inr (s, app, rose, e)) = LoggedInPart end w ran app rose s
+
+-- a text of a script and a log was looked at
+pub checked_ends : (words : List (List ℕ)) (before after : Outside) (checked status : ℕ) (entries : List Entry) → Asks words Check
+    → Checks before after checked → status ≡ checked → entries ≡ [] → Ends words before after status entries
+checked_ends words before after checked status entries w ends s none =
+    Checked w (subst (Checks before after) (sym s) ends) none
 
 -- a script was made, over a source that nobody read
 pub making_ends : (n : ℕ) (words : List (List ℕ)) (before after : Outside) (status : ℕ) (entries : List Entry) → Asks words (Make n)

@@ -2,10 +2,11 @@
 use Rattle.std.specs.Prelude.{◌≡◌, ◌≢◌, ℕ, ◌≤◌, List, [], ◌∷◌, codes}
 use Rattle.std.specs.Fmt.{decimal}
 use Rattle.cyg_cli.specs.declared.commands.Command.{Command}
-use Rattle.cyg_cli.specs.declared.commands.Command.TheVariants.{RunCalls, Make}
+use Rattle.cyg_cli.specs.declared.commands.Command.TheVariants.{RunCalls, Check, Make}
 
 abbrev pub words_of : Command → List (List ℕ)
 words_of RunCalls = codes "run" ∷ codes "calls" ∷ []
+words_of Check = codes "check" ∷ []
 words_of (Make n) = codes "make" ∷ decimal n ∷ []
 
 -- the word is this number in digits without a leading zero, from 1 to 500
@@ -17,6 +18,7 @@ pub record IsNumberOfForks (word : List ℕ) (n : ℕ) : Type 0 where
 -- the numbers that a command accepts
 abbrev pub IsInRange : Command → Type 0
 IsInRange RunCalls = Unit {0}
+IsInRange Check = Unit {0}
 IsInRange (Make n) = (1 ≤ n) × (n ≤ 500)
 
 -- the words are this command's

@@ -16,18 +16,11 @@ use Rattle.first_posix_spec.specs.State.{PosixState}
 use Rattle.first_layer_spec.specs.FirstForm.{IsFirstForm}
 use Rattle.first_layer_spec.specs.LogText.{calls_log}
 use Rattle.first_layer_spec.specs.Headline.{Headline}
-use Rattle.cyg_cli.specs.declared.commands.Command.TheVariants.{RunCalls, Make}
+use Rattle.cyg_cli.specs.declared.commands.Command.TheVariants.{RunCalls, Check, Make}
 use Rattle.cyg_cli.specs.Commands.{Asks, IsNoCommand}
+use Rattle.cyg_cli.specs.Outside.{Outside}
+use Rattle.cyg_cli.specs.Checks.{Checks}
 use Rattle.cyg_cli.specs.RunOf.{IsRunOf}
-
--- what a source and a sink tell: the bytes left and the bytes held, where they tell them, and their counts
-pub record Outside : Type 0 where
-  pub left : Option (List ℕ)
-  pub read_faults : ℕ
-  pub given : ℕ
-  pub ends : ℕ
-  pub held : Option (List ℕ)
-  pub write_faults : ℕ
 
 -- the line that refuses a text
 abbrev pub refusal : List ℕ
@@ -106,6 +99,8 @@ pub data Ends (words : List (List ℕ)) (before after : Outside) (status : ℕ) 
   -- the sink had a fault in the log
   LoggedInPart : (end : End) → Asks words RunCalls → Runs before after entries end → AppendsPart before.held after.held (calls_log entries end)
       → Rose before.write_faults after.write_faults → status ≡ 5 → Ends words before after status entries
+  -- a text of a script and a log was read, and what it is was written
+  Checked : Asks words Check → Checks before after status → entries ≡ [] → Ends words before after status entries
   -- the script of so many forks was written; the source isn't read
   Made : (n : ℕ) (script : Script) → Asks words (Make n) → IsForking n script → IsUntouched before after → Appends before.held after.held (print_of script)
       → status ≡ 0 → entries ≡ [] → Ends words before after status entries

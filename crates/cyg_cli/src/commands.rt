@@ -12,6 +12,8 @@ use world_gen::MOST_FORKS;
 pub enum Command {
     /// `run calls`: a script is read and run, and its log is written by process.
     RunCalls,
+    /// `check`: a script and a log of its run are read, and whether the log is one is written.
+    Check,
     /// `make N`: the script of so many forks, 1 to 500, is written.
     Make(u16),
 }
@@ -20,6 +22,9 @@ pub enum Command {
 pub fn command_of(words: &Vec<String>) -> Option<Command>
     ensures { MatchOption result (IsNoCommand (map string_bytes words.now.items)) (Asks (map string_bytes words.now.items)) }
 {
+    if is_only_word(words, "check") {
+        return Some(Command::Check);
+    }
     if let Some(view) = word_after(words, "run") {
         return if view == "calls" {
             Some(Command::RunCalls)
@@ -29,6 +34,16 @@ pub fn command_of(words: &Vec<String>) -> Option<Command>
     }
     let forks = number_of_forks(word_after(words, "make")?)?;
     Some(Command::Make(forks))
+}
+
+// Whether this is the only word.
+fn is_only_word(words: &Vec<String>, word: &str) -> bool
+    ensures { IsTrue result ↔ (map string_bytes words.now.items ≡ word.now ∷ []) }
+{
+    match words.as_slice() {
+        [only] => is_word(only, word),
+        _ => false,
+    }
 }
 
 // The word after this first one, where the two are all words.

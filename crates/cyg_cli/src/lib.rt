@@ -1,6 +1,7 @@
 //! The top call of the program: from the words and the bytes of a script to the bytes of its log.
 #![tactic(auto)]
 
+mod checking;
 mod commands;
 mod layer;
 mod recorder;

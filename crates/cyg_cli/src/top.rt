@@ -6,14 +6,18 @@ ghost use Rattle.std.specs.List.{AllPass};
 ghost use Rattle.first_layer_spec.specs.LogText.{is_built_entry};
 ghost use Rattle.std.specs.Io.KnownBytes.{Appends};
 ghost use Rattle.cyg_io.specs.Counts.{Rose, RoseBy};
+ghost use Rattle.cyg_io.specs.Source.{DrawsUpTo};
 ghost use Rattle.script_spec.specs.declared.script.Script.{Script};
 ghost use Rattle.script_spec.specs.Print.{print_of};
 ghost use Rattle.world_gen.specs.Forks.{IsForking};
 ghost use Rattle.cyg_cli.specs.Top.{Ends, IsJournalOf, IsRead, IsRunOrShort, IsUnbuilt, refusal, status_of as status_number};
 ghost use Rattle.cyg_cli.specs.TopParts.{IsRefusal, IsLogging, IsLogOf, IsMaking};
+ghost use Rattle.cyg_cli.specs.AnswerLines.{answer_status};
+ghost use Rattle.cyg_cli.specs.Checks.{Checks, ComesToItsText, IsAnswerStatus, IsAnswered, IsAnsweredOrShort, IsDenied, IsTold};
 ghost use Rattle.cyg_cli.specs.Commands.{Asks, IsNoCommand};
-ghost use Rattle.cyg_cli.specs.declared.commands.Command.TheVariants.{RunCalls, Make};
+ghost use Rattle.cyg_cli.specs.declared.commands.Command.TheVariants.{RunCalls, Check, Make};
 
+use crate::checking::{NotJudged, answer_line, judge_all};
 use crate::commands::{Command, command_of};
 use crate::run::run;
 use crate::world::Ran;
@@ -21,6 +25,7 @@ use cyg_io::{ReadAllFault, Sink, Source, read_all, write_all};
 use cyg_script::print_script;
 use first_form::{FirstForm, ReadError, read_first_form};
 use first_log_text::write_calls;
+use run_check::{Judged, Verdict};
 use std::alloc::Global;
 use std::marker::Model;
 use w32_base::{End, Journal, Memory};
@@ -28,9 +33,9 @@ use world_gen::make;
 
 /// How the program ends.
 ///
-/// 0: the whole log was written. 2: the words aren't accepted. 3: the text isn't a script. 4: the source had a fault.
-/// 5: the sink had a fault. 6: the journal has as many entries as the script's budget, and work remains. 7: memory ran
-/// out.
+/// 0: the whole log was written, or the script that was made, or `yes`. 1: a log has an event that is no step. 2: the
+/// words aren't accepted. 3: the text isn't a script, or no log of one. 4: the source had a fault. 5: the sink had a
+/// fault. 6: the journal has as many entries as the script's budget, and work remains. 7: memory ran out.
 #[derive(Clone, Copy, Debug, PartialEq, Eq)]
 pub struct Status(u8);
 
@@ -77,12 +82,17 @@ fn without_journal(alloc: Global, status: Status) -> TopAnswer
     }
 }
 
-/// Carries out a command. The words are the program's arguments after its own name: `run calls`, or `make N` with N
-/// from 1 to 500, in digits without a leading zero.
+/// Carries out a command. The words are the program's arguments after its own name: `run calls`, `check`, or `make N`
+/// with N from 1 to 500, in digits without a leading zero.
 ///
 /// With `run calls` the source gives a script of the first form, of at most 1,048,576 bytes. It is run on the modelled
 /// Win32, and its log goes to the sink. A text that is no script of the first form is refused with the line
 /// `fault 0 Unbuilt`. With `make N` the script of N forks goes to the sink, and the source isn't read.
+///
+/// With `check` the source gives a script of the whole grammar, a line `==` and a log in view `events`, of at most
+/// 67,108,864 bytes together. To the sink goes one line: `yes` where the log's events are a run of the POSIX machine from
+/// where the script begins, `no LINE RULE` with the first event that is no step, `fault LINE KIND` with the first fault
+/// of the script, or `logfault LINE` with that of the log.
 pub fn run_top<S: Source, K: Sink>(
     alloc: Global,
     words: &Vec<String>,
@@ -101,9 +111,9 @@ pub fn run_top<S: Source, K: Sink>(
         × (S.given src.new ≡ S.given src.old) × (S.ends src.new ≡ S.ends src.old) }
     ensures sink_untouched { result.status ≡ 2 → (K.held sink.new ≡ K.held sink.old) × (K.faults sink.new ≡ K.faults sink.old) }
 
-    // 3 comes where the text was read and is no script of the first form. The refusal is what was written.
-    ensures refused { result.status ≡ 3 → IfSome (S.remaining src.old) IsUnbuilt × Appends (K.held sink.old) (K.held sink.new) refusal }
-    ensures refused_after { result.status ≡ 3 → IsRead (S.ends src.old) (S.ends src.new) (S.given src.old) (S.given src.new) }
+    // With `run calls` 3 comes where the text was read and is no script of the first form. The refusal is what was written.
+    ensures refused { Asks (map string_bytes words.now.items) RunCalls → result.status ≡ 3 → IfSome (S.remaining src.old) IsUnbuilt × Appends (K.held sink.old) (K.held sink.new) refusal }
+    ensures refused_after { Asks (map string_bytes words.now.items) RunCalls → result.status ≡ 3 → IsRead (S.ends src.old) (S.ends src.new) (S.given src.old) (S.given src.new) }
     ensures only_scripts_run { Asks (map string_bytes words.now.items) RunCalls
         → IfSome (S.remaining src.old) (λ text. IsUnbuilt text → (result.status ≢ 0) × (result.status ≢ 6)) }
 
@@ -127,6 +137,31 @@ pub fn run_top<S: Source, K: Sink>(
     ensures unread { (n : ℕ) → Asks (map string_bytes words.now.items) (Make n) → (S.remaining src.new ≡ S.remaining src.old)
         × (S.faults src.new ≡ S.faults src.old) × (S.given src.new ≡ S.given src.old) × (S.ends src.new ≡ S.ends src.old) }
 
+    // A `check` writes what its text is, unless the source or the sink has a fault or memory runs out. It runs no world,
+    // and reads at most one byte past the limit of 67,108,864.
+    ensures checked { Asks (map string_bytes words.now.items) Check → ComesToItsText
+        (record { left = S.remaining src.old; read_faults = S.faults src.old; given = S.given src.old; ends = S.ends src.old; held = K.held sink.old; write_faults = K.faults sink.old })
+        (record { left = S.remaining src.new; read_faults = S.faults src.new; given = S.given src.new; ends = S.ends src.new; held = K.held sink.new; write_faults = K.faults sink.new })
+        result.status }
+    ensures unrun { Asks (map string_bytes words.now.items) Check → result.journal ≡ [] }
+    ensures asked { Asks (map string_bytes words.now.items) Check → DrawsUpTo 67108865 (S.remaining src.old) (S.remaining src.new) (S.given src.old) (S.given src.new) }
+
+    // 0, 1 and 3 come with the whole line of an answer, and 1 only where the log has an event that is no step.
+    ensures answered { Asks (map string_bytes words.now.items) Check → (result.status ≡ 0) ⊎ (result.status ≡ 1) ⊎ (result.status ≡ 3) → IsAnswered
+        (record { left = S.remaining src.old; read_faults = S.faults src.old; given = S.given src.old; ends = S.ends src.old; held = K.held sink.old; write_faults = K.faults sink.old })
+        (record { left = S.remaining src.new; read_faults = S.faults src.new; given = S.given src.new; ends = S.ends src.new; held = K.held sink.new; write_faults = K.faults sink.new })
+        result.status }
+    ensures denied { result.status ≡ 1 → Asks (map string_bytes words.now.items) Check × IsDenied
+        (record { left = S.remaining src.old; read_faults = S.faults src.old; given = S.given src.old; ends = S.ends src.old; held = K.held sink.old; write_faults = K.faults sink.old })
+        (record { left = S.remaining src.new; read_faults = S.faults src.new; given = S.given src.new; ends = S.ends src.new; held = K.held sink.new; write_faults = K.faults sink.new }) }
+
+    // A text is answered, unless the source or the sink has a fault or memory runs out.
+    ensures complete_check { Asks (map string_bytes words.now.items) Check → ¬ Rose (S.faults src.old) (S.faults src.new) → ¬ Rose (K.faults sink.old) (K.faults sink.new)
+        → IsAnswerStatus result.status × IfSome (S.remaining src.old) (IsAnsweredOrShort result.status) }
+
+    // Where a `check` ends with 0 or 1, the source has answered its end.
+    ensures whole_check { Asks (map string_bytes words.now.items) Check → (result.status ≡ 0) ⊎ (result.status ≡ 1) → RoseBy 1 (S.ends src.old) (S.ends src.new) }
+
     // Where a run ends with 0 or 6, the source has answered its end.
     ensures whole_run { Asks (map string_bytes words.now.items) RunCalls → result.status ≡ 0 → RoseBy 1 (S.ends src.old) (S.ends src.new) }
     ensures part_run { result.status ≡ 6 → RoseBy 1 (S.ends src.old) (S.ends src.new) }
@@ -147,6 +182,7 @@ fn carry_out<S: Source, K: Sink>(
 {
     match command_of(words) {
         Some(Command::RunCalls) => run_script(alloc, src, sink),
+        Some(Command::Check) => without_journal(alloc, check_log(alloc, src, sink)),
         Some(Command::Make(n)) => make_script(alloc, n, sink),
         None => without_journal(alloc, Status(2)),
     }
@@ -168,6 +204,42 @@ fn run_script<S: Source, K: Sink>(alloc: Global, src: &mut S, sink: &mut K) -> T
         Ok(form) => run_form(alloc, &form, sink),
         Err(ReadError::Memory) => without_journal(alloc, Status(7)),
         Err(ReadError::Unbuilt) => refuse(alloc, sink),
+    }
+}
+
+fn check_log<S: Source, K: Sink>(alloc: Global, src: &mut S, sink: &mut K) -> Status
+    ensures { Checks
+        (record { left = S.remaining src.old; read_faults = S.faults src.old; given = S.given src.old; ends = S.ends src.old; held = K.held sink.old; write_faults = K.faults sink.old })
+        (record { left = S.remaining src.new; read_faults = S.faults src.new; given = S.given src.new; ends = S.ends src.new; held = K.held sink.new; write_faults = K.faults sink.new })
+        result }
+{
+    match judge_all(alloc, src) {
+        Ok(judged) => answer(alloc, &judged, sink),
+        Err(NotJudged::Read) => Status(4),
+        Err(NotJudged::Memory) => Status(7),
+    }
+}
+
+// Writes the line that says what a text is.
+fn answer<K: Sink>(alloc: Global, judged: &Judged, sink: &mut K) -> Status
+    ensures { IsTold judged.now (K.held sink.old) (K.held sink.new) (K.faults sink.old) (K.faults sink.new) result }
+{
+    let Ok(line) = answer_line(alloc, judged) else {
+        return Status(7);
+    };
+    match write_all(sink, line.as_bytes()) {
+        Ok(()) => status_of_judged(judged),
+        Err(_) => Status(5),
+    }
+}
+
+fn status_of_judged(judged: &Judged) -> Status
+    ensures { result ≡ answer_status judged.now }
+{
+    match judged {
+        Judged::Verdict(Verdict::Yes) => Status(0),
+        Judged::Verdict(Verdict::No { .. }) => Status(1),
+        Judged::ScriptFault { .. } | Judged::LogFault { .. } => Status(3),
     }
 }
 

@@ -1,0 +1,103 @@
+//! What a text of a script and a log of its run is, and the line that says so.
+
+ghost use Rattle.std.specs.Prelude.{◌≡◌, IfOk, MatchResult};
+ghost use Rattle.std.specs.String.{string_bytes};
+ghost use Rattle.cyg_cli.specs.AnswerLines.{kind_word, line_of, numbered_line, verdict_line as line_of_verdict};
+ghost use Rattle.cyg_cli.specs.Checks.{IsJudged, IsNotJudged};
+
+use cyg_io::{ReadAllFault, Source, read_all};
+use itoa::Buffer;
+use run_check::{Judged, Verdict, judge};
+use script_spec::Kind;
+use std::alloc::{AllocError, Global};
+
+/// The most bytes that a script and its log may have.
+const MOST_BYTES: usize = 67_108_864;
+
+/// Why it isn't told what a source gives.
+#[derive(Clone, Copy, Debug, PartialEq, Eq)]
+pub enum NotJudged {
+    /// The source had a fault.
+    Read,
+    /// Memory ran out.
+    Memory,
+}
+
+/// Reads all that the source gives, and says what it is. A text of more than 67,108,864 bytes is a script that is too
+/// large; no more than one byte past them is read.
+pub fn judge_all<S: Source>(alloc: Global, src: &mut S) -> Result<Judged, NotJudged>
+    ensures { MatchResult result
+        (IsJudged (record { left = S.remaining src.old; faults = S.faults src.old; given = S.given src.old; ends = S.ends src.old })
+        (record { left = S.remaining src.new; faults = S.faults src.new; given = S.given src.new; ends = S.ends src.new }))
+        (IsNotJudged (record { left = S.remaining src.old; faults = S.faults src.old; given = S.given src.old; ends = S.ends src.old })
+        (record { left = S.remaining src.new; faults = S.faults src.new; given = S.given src.new; ends = S.ends src.new })) }
+{
+    match read_all(alloc, src, MOST_BYTES) {
+        Ok(text) => match judge(alloc, &text) {
+            Ok(judged) => Ok(judged),
+            Err(_) => Err(NotJudged::Memory),
+        },
+        Err(ReadAllFault::Large) => Ok(Judged::ScriptFault {
+            line: 0,
+            kind: Kind::Large,
+        }),
+        Err(ReadAllFault::Read) => Err(NotJudged::Read),
+        Err(ReadAllFault::Memory) => Err(NotJudged::Memory),
+    }
+}
+
+/// The line that says what a text is. It fails only for want of memory.
+pub fn answer_line(alloc: Global, judged: &Judged) -> Result<String, AllocError>
+    ensures { IfOk result (λ line. string_bytes line ≡ line_of judged.now) }
+{
+    match judged {
+        Judged::ScriptFault { line, kind } => numbered(alloc, "fault", *line, kind_name(*kind)),
+        Judged::LogFault { line } => format!(in alloc; "logfault {line}\n"),
+        Judged::Verdict(verdict) => verdict_line(alloc, verdict),
+    }
+}
+
+// The line of a verdict.
+fn verdict_line(alloc: Global, verdict: &Verdict) -> Result<String, AllocError>
+    ensures { IfOk result (λ line. string_bytes line ≡ line_of_verdict verdict.now) }
+{
+    match verdict {
+        Verdict::Yes => format!(in alloc; "yes\n"),
+        Verdict::No { line, rule } => numbered(alloc, "no", *line, rule.as_str()),
+    }
+}
+
+// A line of a word, a number and a word.
+fn numbered(alloc: Global, first: &str, number: u32, last: &str) -> Result<String, AllocError>
+    ensures { IfOk result (λ line. string_bytes line ≡ numbered_line first.now number last.now) }
+{
+    let mut line = String::from_str(alloc, first)?;
+    line.push_str(" ")?;
+    line.push_str(Buffer::new().format(number))?;
+    line.push_str(" ")?;
+    line.push_str(last)?;
+    line.push_str("\n")?;
+    Ok(line)
+}
+
+// The name of a kind of fault.
+fn kind_name(kind: Kind) -> &'static str
+    ensures { result.now ≡ kind_word kind }
+{
+    match kind {
+        Kind::Large => "Large",
+        Kind::NoHeader => "NoHeader",
+        Kind::Unfinished => "Unfinished",
+        Kind::NotAscii => "NotAscii",
+        Kind::TooLong => "TooLong",
+        Kind::Missing => "Missing",
+        Kind::Unknown => "Unknown",
+        Kind::Words => "Words",
+        Kind::BadNumber => "BadNumber",
+        Kind::Range => "Range",
+        Kind::BadName => "BadName",
+        Kind::Twice => "Twice",
+        Kind::TooMany => "TooMany",
+        Kind::Target => "Target",
+    }
+}
