@@ -1,4 +1,5 @@
-//! The program: it reads a script on standard input and writes its log on standard output, or makes a script.
+//! The program: it reads a script on standard input and writes its log on standard output, or says whether a log is that
+//! of a run, or makes a script.
 #![tactic(auto)]
 
 use clap::{Arg, ArgAction, Command};
@@ -66,14 +67,18 @@ fn usage(alloc: Global) -> Result<String, AllocError> {
     let run = Command::new(alloc, "run")
         .about("reads a script on standard input and writes its log, by process")
         .arg(view)?;
+    let check = Command::new(alloc, "check").about(
+        "reads a script, a line == and a log, and says whether the log's events are steps",
+    );
     let forks = Arg::new(alloc, "N").required(true).action(ArgAction::Set);
     let make = Command::new(alloc, "make")
         .about("writes the script of N forks, 1 to 500")
         .arg(forks)?;
     let mut command = Command::new(alloc, "cyg")
         .about("runs process programs on a modelled Win32")
-        .after_help("The words are `run calls`, or `make N` with N from 1 to 500.")
+        .after_help("The words are `run calls`, `check`, or `make N` with N from 1 to 500.")
         .subcommand(run)?
+        .subcommand(check)?
         .subcommand(make)?;
     command.render_help()
 }
