@@ -7,11 +7,11 @@ use std::test::Fail;
 
 // What one run of the top call came to.
 #[derive(Clone, Copy)]
-struct Ending {
-    status: u8,
-    read_faults: u64,
-    write_faults: u64,
-    entries: usize,
+pub struct Ending {
+    pub status: u8,
+    pub read_faults: u64,
+    pub write_faults: u64,
+    pub entries: usize,
 }
 
 const RUN_CALLS: &[&str] = &["run", "calls"];
@@ -25,7 +25,7 @@ const FIRST_LOG: &[u8] =
     b"log calls\nhost 0 0\nget 2 pid 2\nkill 2 2 0 0\ndie 2 0 exit\ntty -\ndone quiet\n";
 
 // The bytes of two pieces.
-fn joined<R: AllocGlobal>(rt: &R, first: &[u8], second: &[u8]) -> Result<Vec<u8>, AllocError> {
+pub fn joined<R: AllocGlobal>(rt: &R, first: &[u8], second: &[u8]) -> Result<Vec<u8>, AllocError> {
     let mut bytes = Vec::new(rt.alloc());
     bytes.extend_from_slice(first)?;
     bytes.extend_from_slice(second)?;
@@ -33,14 +33,14 @@ fn joined<R: AllocGlobal>(rt: &R, first: &[u8], second: &[u8]) -> Result<Vec<u8>
 }
 
 // A sink with room for any log of these tests. It fails at the calls that are given.
-fn sink_that_fails<R: AllocGlobal>(rt: &R, bad_writes: &[u32]) -> Result<MemSink, Fail> {
+pub fn sink_that_fails<R: AllocGlobal>(rt: &R, bad_writes: &[u32]) -> Result<MemSink, Fail> {
     let mut fails = Vec::new(rt.alloc());
     fails.extend_from_slice(bad_writes)?;
     Ok(MemSink::new(rt.alloc(), 4096, fails)?)
 }
 
 // Runs the words over a script. The source fails at the calls that are given.
-fn run_words<R: AllocGlobal>(
+pub fn run_words<R: AllocGlobal>(
     rt: &R,
     words: &[&str],
     script: Vec<u8>,
@@ -119,6 +119,11 @@ fn other_words_are_refused(rt: HostRuntime) -> Result<(), Fail> {
         &["make", "18446744073709551617"],
         &["make", "2", "2"],
         &["run", "calls", "calls"],
+        &["check", "check"],
+        &["check", "calls"],
+        &["run", "check"],
+        &["checks"],
+        &["Check"],
         &["--help"],
     ];
     for words in refused {
