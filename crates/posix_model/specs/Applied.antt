@@ -1,6 +1,7 @@
 -- What an event leaves that is applied, and one that isn't.
-use Rattle.std.specs.Prelude.{◌≡◌, None}
+use Rattle.std.specs.Prelude.{◌≡◌, Bool, true, false, None}
 use Rattle.w32_base.specs.declared.event.Event.{Event}
+use Rattle.w32_base.specs.declared.event.Event.TheVariants as event
 use Rattle.script_spec.specs.declared.script.Script.{Script}
 use Rattle.posix_spec.specs.Step.{posix_step}
 use Rattle.posix_spec.specs.Run.{PosixStep}
@@ -19,8 +20,19 @@ pub record IsApplied (old : PosixMachine) (e : Event) (new : PosixMachine) : Typ
   pub limits : new.limits ≡ old.limits
   pub programs : new.programs ≡ old.programs
 
--- nothing changes; and the event isn't a step, and the error has its rule, where it isn't for want of memory
+-- The events that may want for memory: a child is made, bytes are put out, or a parent is owed one CHLD more.
+abbrev pub may_want_memory : Event → Bool
+may_want_memory (event.Fork p c) = true
+may_want_memory (event.Kill p q signal answer) = true
+may_want_memory (event.Member p q signal) = true
+may_want_memory (event.Stop p signal) = true
+may_want_memory (event.Die p v cause) = true
+may_want_memory (event.Write p n bytes) = true
+may_want_memory (event.Key p b) = true
+may_want_memory _ = false
+
+-- Nothing changes. The event isn't a step, and the error has its rule; or it is one that may want for memory.
 abbrev pub IsRefused : PosixMachine → Event → PosixMachine → ApplyError → Type 0
 IsRefused old e new (NotAllowed rule) =
     (posix_step (script_for old) old.state e ≡ None) × (rule ≡ rule_of e) × (new ≡ old)
-IsRefused old e new Memory = new ≡ old
+IsRefused old e new Memory = (may_want_memory e ≡ true) × (new ≡ old)

@@ -1,6 +1,8 @@
 //! Any event: carried out where it is a step.
 
+ghost use Rattle.std.specs.Prelude.{◌≡◌, true, OnErr};
 ghost use Rattle.posix_spec.specs.Step.{posix_step, member_of, group_done_of};
+ghost use Rattle.posix_model.specs.Applied.{may_want_memory};
 ghost use Rattle.posix_model.specs.Machine.{script_of, state_of};
 ghost use Rattle.posix_model.specs.Gives.{Gives, GivesOrFails};
 
@@ -13,10 +15,12 @@ use crate::{
 use std::alloc::Global;
 use w32_base::{Acting, Answer, Event, Memory};
 
-/// Carries an event out where it is a step, and answers whether it is one. It fails only for want of memory.
+/// Carries an event out where it is a step, and answers whether it is one. It fails only for want of memory, at an event
+/// that may want for it.
 #[tactic(auto, unfolding(posix_spec::specs::Step::posix_step))]
 pub fn step(alloc: Global, m: &mut Machine, event: &Event) -> Result<bool, Memory>
-    ensures { GivesOrFails (posix_step (script_of m.old) (state_of m.old) event.now) result m.old m.new }
+    ensures gives { GivesOrFails (posix_step (script_of m.old) (state_of m.old) event.now) result m.old m.new }
+    ensures memory { OnErr result (may_want_memory event.now ≡ true) }
 {
     match *event {
         Event::Run(p, n) => Ok(runs::run(m, p, n)),
