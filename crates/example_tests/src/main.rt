@@ -1,0 +1,60 @@
+//! Carries out the examples that lie where it runs, and compares what comes of each with what stands beside it. It
+//! prints a line for each example, and ends with status 1 where one of them differs.
+#![tactic(auto)]
+
+mod outcome;
+
+use anyhow::Result;
+use outcome::{Outcome, outcome_of, verdict_of};
+use std::alloc::Global;
+use std::fs;
+use std::process::ExitCode;
+use std::rt::Files;
+
+/// An example came to something else.
+const DIFFERS: u8 = 1;
+
+/// The scripts that are run with the words `run calls`, each with the status of the run. The log of NAME.cyg is
+/// NAME.log.
+const RUNS: [(&str, u8); 4] = [("first", 0), ("absent", 0), ("budget", 6), ("two_forks", 3)];
+
+/// The texts of a script and a log that are judged. The verdict on NAME.trace is NAME.verdict.
+const TRACES: [&str; 4] = ["reaped", "reaped_twice", "interrupt", "no_place"];
+
+fn main(rt: HostRuntime) -> Result<ExitCode> {
+    let mut are_same = true;
+    for (name, status) in RUNS {
+        let script = file(&rt, name, "cyg")?;
+        let wanted = Outcome {
+            status,
+            output: file(&rt, name, "log")?,
+        };
+        let outcome = outcome_of(rt.alloc(), &["run", "calls"], script)?;
+        are_same &= report(&rt, name, outcome.is(&wanted))?;
+    }
+    let wanted = Outcome {
+        status: 0,
+        output: file(&rt, "two_forks", "cyg")?,
+    };
+    let made = outcome_of(rt.alloc(), &["make", "2"], Vec::new(rt.alloc()))?;
+    are_same &= report(&rt, "make 2", made.is(&wanted))?;
+    for name in TRACES {
+        let verdict = verdict_of(rt.alloc(), &file(&rt, name, "trace")?)?;
+        let wanted = file(&rt, name, "verdict")?;
+        are_same &= report(&rt, name, verdict.as_bytes() == wanted.as_slice())?;
+    }
+    Ok(ExitCode::from(if are_same { 0 } else { DIFFERS }))
+}
+
+// The bytes of the file of an example with this ending.
+fn file<R: Files + AllocGlobal>(rt: &R, name: &str, ending: &str) -> Result<Vec<u8>> {
+    let path = format!(in rt.alloc(); "{name}.{ending}")?;
+    Ok(fs::read(rt, path.as_str())?)
+}
+
+// Says whether an example came to what stands beside it, and answers it.
+fn report<R: Print>(rt: &R, name: &str, is_same: bool) -> Result<bool> {
+    let says = if is_same { "as it stands" } else { "differs" };
+    println!(rt; "{name}: {says}")?;
+    Ok(is_same)
+}
