@@ -3,6 +3,8 @@
 #![tactic(auto)]
 
 mod outcome;
+#[cfg(test)]
+mod tests;
 
 use anyhow::Result;
 use outcome::{Outcome, outcome_of, verdict_of};

@@ -6,7 +6,7 @@ use run_check::{Judged, MOST_EVENTS, Verdict, judge};
 use std::alloc::{AllocError, Global};
 
 /// How many bytes the output of an example has at the most.
-const MOST_OUTPUT: usize = 65_536;
+const MOST_OUTPUT: usize = 262_144;
 
 /// How a call of the program ended, and what it wrote.
 #[derive(Debug, Drop)]
