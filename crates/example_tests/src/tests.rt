@@ -1,6 +1,8 @@
 //! The largest inputs: there is memory for them.
 
 use crate::outcome::{outcome_of, verdict_of};
+use cyg_cli::CleanSource;
+use cyg_io::read_all;
 use std::alloc::{AllocError, Global};
 use std::test::Fail;
 
@@ -16,15 +18,18 @@ const START: &[u8] = b"cygscript 1\nslots 1\nrows 1\nbudget 500000\n";
 /// The other lines of a script with a short program.
 const SHORT: &[u8] = b"program main heap 0 stack 64\nexit 0\nschedule\nsettle\n";
 
-/// A line of a comment, of 128 bytes.
-const COMMENT: &[u8] =
-    b"# ............................................................................................................................\n";
+/// A line that is skipped.
+const COMMENT: &[u8] = b"# a comment that makes the script as long as it may be\n";
 
-/// A line of an event with as many bytes as one may have.
+/// A line of an event, with as many bytes as an event may show.
 const WRITE: &[u8] =
-    b"write 2 64 61616161616161616161616161616161616161616161616161616161616161616161616161616161616161616161616161616161616161616161616161616161\n";
+    b"write 2 64 61616161616161616161616161616161616161616161616161616161616161616161\
+    616161616161616161616161616161616161616161616161616161616161\n";
 
-// Adds the line while the bytes have room for it below this number.
+/// The last line of a log.
+const DONE: &[u8] = b"done quiet\n";
+
+// Adds the line as often as there is room for it below this number of bytes.
 fn fill(bytes: &mut Vec<u8>, line: &[u8], most: usize) -> Result<(), AllocError> {
     let room = most.saturating_sub(bytes.len());
     for _line in 0..room / line.len().max(1) {
@@ -33,13 +38,22 @@ fn fill(bytes: &mut Vec<u8>, line: &[u8], most: usize) -> Result<(), AllocError>
     Ok(())
 }
 
-// A script of as many bytes as one may have, but for less than a line of a comment.
+// A script of as many bytes as one may have, but for less than one line that is skipped.
 fn large_script(alloc: Global) -> Result<Vec<u8>, AllocError> {
     let mut script = Vec::new(alloc);
     script.extend_from_slice(START)?;
     fill(&mut script, COMMENT, MOST_SCRIPT - SHORT.len())?;
     script.extend_from_slice(SHORT)?;
     Ok(script)
+}
+
+// The script, and a log of as many bytes as there may be of both together, but for less than one line of an event.
+fn large_text(alloc: Global) -> Result<Vec<u8>, AllocError> {
+    let mut text = large_script(alloc)?;
+    text.extend_from_slice(b"==\nlog events\n")?;
+    fill(&mut text, WRITE, MOST_TEXT - DONE.len())?;
+    text.extend_from_slice(DONE)?;
+    Ok(text)
 }
 
 #[test]
@@ -61,13 +75,19 @@ fn the_longest_program_is_run(rt: HostRuntime) -> Result<(), Fail> {
 }
 
 #[test]
-fn the_largest_text_is_judged(rt: HostRuntime) -> Result<(), Fail> {
-    let mut text = large_script(rt.alloc())?;
-    assert!(rt; text.len() <= MOST_SCRIPT && text.len() + COMMENT.len() > MOST_SCRIPT);
-    text.extend_from_slice(b"==\nlog events\n")?;
-    fill(&mut text, WRITE, MOST_TEXT - 11)?;
-    text.extend_from_slice(b"done quiet\n")?;
+fn the_largest_script_is_read(rt: HostRuntime) -> Result<(), Fail> {
+    let script = large_script(rt.alloc())?;
+    assert!(rt; script.len() <= MOST_SCRIPT && script.len() + COMMENT.len() > MOST_SCRIPT);
+    // The script has no fault, and the log that is wanting has one.
+    assert_eq!(rt; verdict_of(rt.alloc(), &script)?.as_str(), "logfault 1\n");
+    Ok(())
+}
+
+#[test]
+fn the_largest_text_is_read_and_judged(rt: HostRuntime) -> Result<(), Fail> {
+    let text = large_text(rt.alloc())?;
     assert!(rt; text.len() <= MOST_TEXT && text.len() + WRITE.len() > MOST_TEXT);
-    assert_eq!(rt; verdict_of(rt.alloc(), &text)?.as_str(), "no 2 write\n");
+    let read = read_all(rt.alloc(), &mut CleanSource::new(text), MOST_TEXT)?;
+    assert_eq!(rt; verdict_of(rt.alloc(), &read)?.as_str(), "no 2 write\n");
     Ok(())
 }
