@@ -1,5 +1,6 @@
-//! Carries out the examples that lie where it runs, and compares what comes of each with what stands beside it. It
-//! prints a line for each example, and ends with status 1 where one of them differs.
+//! Carries out the examples of a folder, and compares what comes of each with what stands beside it. It prints a line
+//! for each example, and ends with status 1 where one of them differs. The argument is the folder; without one it is
+//! that in which it runs.
 #![tactic(auto)]
 
 mod outcome;
@@ -8,10 +9,9 @@ mod tests;
 
 use anyhow::Result;
 use outcome::{Outcome, outcome_of, verdict_of};
-use std::alloc::Global;
-use std::fs;
 use std::process::ExitCode;
 use std::rt::Files;
+use std::{env, fs};
 
 /// An example came to something else.
 const DIFFERS: u8 = 1;
@@ -24,33 +24,38 @@ const RUNS: [(&str, u8); 4] = [("first", 0), ("absent", 0), ("budget", 6), ("two
 const TRACES: [&str; 4] = ["reaped", "reaped_twice", "interrupt", "no_place"];
 
 fn main(rt: HostRuntime) -> Result<ExitCode> {
+    let folder = match env::args(&rt)?.nth(1) {
+        Some(word) => word,
+        None => String::from_str(rt.alloc(), ".")?,
+    };
+    let folder = folder.as_str();
     let mut are_same = true;
     for (name, status) in RUNS {
-        let script = file(&rt, name, "cyg")?;
+        let script = file(&rt, folder, name, "cyg")?;
         let wanted = Outcome {
             status,
-            output: file(&rt, name, "log")?,
+            output: file(&rt, folder, name, "log")?,
         };
         let outcome = outcome_of(rt.alloc(), &["run", "calls"], script)?;
         are_same &= report(&rt, name, outcome.is(&wanted))?;
     }
     let wanted = Outcome {
         status: 0,
-        output: file(&rt, "two_forks", "cyg")?,
+        output: file(&rt, folder, "two_forks", "cyg")?,
     };
     let made = outcome_of(rt.alloc(), &["make", "2"], Vec::new(rt.alloc()))?;
     are_same &= report(&rt, "make 2", made.is(&wanted))?;
     for name in TRACES {
-        let verdict = verdict_of(rt.alloc(), &file(&rt, name, "trace")?)?;
-        let wanted = file(&rt, name, "verdict")?;
+        let verdict = verdict_of(rt.alloc(), &file(&rt, folder, name, "trace")?)?;
+        let wanted = file(&rt, folder, name, "verdict")?;
         are_same &= report(&rt, name, verdict.as_bytes() == wanted.as_slice())?;
     }
     Ok(ExitCode::from(if are_same { 0 } else { DIFFERS }))
 }
 
 // The bytes of the file of an example with this ending.
-fn file<R: Files + AllocGlobal>(rt: &R, name: &str, ending: &str) -> Result<Vec<u8>> {
-    let path = format!(in rt.alloc(); "{name}.{ending}")?;
+fn file<R: Files + AllocGlobal>(rt: &R, folder: &str, name: &str, ending: &str) -> Result<Vec<u8>> {
+    let path = format!(in rt.alloc(); "{folder}/{name}.{ending}")?;
     Ok(fs::read(rt, path.as_str())?)
 }
 
