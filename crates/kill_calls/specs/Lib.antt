@@ -1,0 +1,3 @@
+pub mod Kill
+pub mod KillLaws
+pub mod KillStart

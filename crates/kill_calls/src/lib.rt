@@ -1,0 +1,10 @@
+//! kill: signals that a program sends. No call takes memory.
+#![tactic(auto)]
+
+mod one;
+mod start;
+#[cfg(test)]
+mod tests;
+
+pub use one::{KillOne, KillStep};
+pub use start::{KillStart, begin};
