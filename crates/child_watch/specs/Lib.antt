@@ -1,0 +1,5 @@
+pub mod Collect
+pub mod CollectLaws
+pub mod Ending
+pub mod Exiting
+pub mod ExitingLaws

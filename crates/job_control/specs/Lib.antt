@@ -1,0 +1,2 @@
+pub mod Starter
+pub mod StarterLaws
