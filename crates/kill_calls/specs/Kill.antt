@@ -2,7 +2,7 @@
 -- answers. Else the signal is posted (`Post` of `roster`, whose steps are this part's), and the call is answered in the
 -- turn in which the signal is posted, or in which the main word shows a zombie or no process. The waking and what
 -- follows come after the answer.
-use Rattle.std.specs.Prelude.{ℕ, ◌+◌, ℤ, pos, Bool, true, false, if◌then◌else◌, Option, Some, None}
+use Rattle.std.specs.Prelude.{ℕ, ◌+◌, pos, Bool, true, false, if◌then◌else◌, Option, Some, None}
 use Rattle.w32_base.specs.declared.call.Call.{Call}
 use Rattle.w32_base.specs.declared.call.Call.TheVariants as call
 use Rattle.w32_base.specs.declared.call.Reply.{Reply}
@@ -17,7 +17,6 @@ use Rattle.layer_spec.specs.Rows.{main_place}
 use Rattle.layer_spec.specs.Words.{row_of}
 use Rattle.roster.specs.declared.wake.Poster.TheVariants as poster
 use Rattle.roster.specs.declared.post_one.PostStep.TheVariants as step
-use Rattle.roster.specs.declared.post.Posted.{Posted}
 use Rattle.roster.specs.declared.post.Posted.TheVariants as posted
 use Rattle.roster.specs.declared.post.Post.{Post}
 use Rattle.roster.specs.declared.post.Post.TheVariants as post
@@ -108,24 +107,13 @@ with_step p t = record { part = record p { step = t.part }; own = t.own; event =
 abbrev pub kill_after : KillOne → Own → Reply → OwnTurn KillOne
 kill_after p own r = with_step p (kill_step_after p p.step own r)
 
--- how many turns are left at most, but for another word found by a compare-exchange
-abbrev pub kill_step_rank : KillStep → ℕ
-kill_step_rank kill.Checking = 2
-kill_step_rank (kill.Posting x) = post_rank x + 2
-kill_step_rank (kill.Ending x) = post_rank x + 2
-kill_step_rank kill.Done = 0
-kill_step_rank kill.Rest = 1
+-- how many turns are left at most, but for another word found by a compare-exchange, where so many follow the kill
+abbrev pub kill_rank_by : (behind : ℕ) → KillStep → ℕ
+kill_rank_by behind kill.Checking = 2
+kill_rank_by behind (kill.Posting x) = post_rank x + 2
+kill_rank_by behind (kill.Ending x) = post_rank x + 1 + behind
+kill_rank_by behind kill.Done = behind
+kill_rank_by behind kill.Rest = 1
 
 abbrev pub kill_rank : KillOne → ℕ
-kill_rank p = kill_step_rank p.step
-
--- whether the call has its answer
-abbrev pub is_answered_step : KillStep → Bool
-is_answered_step kill.Checking = false
-is_answered_step (kill.Posting x) = false
-is_answered_step (kill.Ending x) = true
-is_answered_step kill.Done = true
-is_answered_step kill.Rest = false
-
-abbrev pub is_kill_answered : KillOne → Bool
-is_kill_answered p = is_answered_step p.step
+kill_rank p = kill_rank_by 0 p.step

@@ -56,7 +56,7 @@ fn kill_event(by: Pid, target: RowNo, signal: &Option<Signal>, answer: Answer) -
 }
 
 impl KillStep {
-    ghost use Rattle.kill_calls.specs.Kill.{kill_step_rank, kill_first, kill_ends};
+    ghost use Rattle.kill_calls.specs.Kill.{kill_first, kill_ends};
 
     // The first step.
     fn first(by: Pid, target: RowNo, signal: &Option<Signal>) -> KillStep
@@ -85,7 +85,7 @@ impl KillStep {
 impl KillOne {
     ghost use Rattle.layer_turns.specs.OwnTurns.{OwnTurn};
     ghost use Rattle.kill_calls.specs.Kill.{kill_begun, kill_answered, kill_checked, kill_waits, kill_by_post};
-    ghost use Rattle.kill_calls.specs.Kill.{kill_step_after, kill_after, kill_posted, kill_rank, is_kill_answered};
+    ghost use Rattle.kill_calls.specs.Kill.{kill_step_after, kill_after, kill_posted, kill_rank};
 
     /// At its start: a process's kill of the process with a row, with a signal, or with none for a check only.
     pub fn new(by: Pid, target: RowNo, signal: Option<Signal>) -> KillOne
@@ -105,13 +105,6 @@ impl KillOne {
         ensures { IsTrue result ↔ (kill_rank self.now ≡ 0) }
     {
         matches!(self.step, KillStep::Done)
-    }
-
-    /// Whether the call has its answer.
-    pub fn is_answered(&self) -> bool
-        ensures { result ≡ is_kill_answered self.now }
-    {
-        matches!(self.step, KillStep::Ending(_) | KillStep::Done)
     }
 
     // The call has an answer.

@@ -1,6 +1,6 @@
 -- What follows from a part's turns for the part.
-use Rattle.std.specs.Prelude.{◌≡◌, ℕ, ◌+◌, ◌<◌, ◌≤◌, ℤ, Bool, true, false, ◌&&◌, ◌||◌, nat_eq, nat_lt, List, ◌++◌}
-use Rattle.std.specs.Prelude.{length, take, drop, Option, Some, None}
+use Rattle.std.specs.Prelude.{◌≡◌, ℕ, ◌+◌, ◌<◌, ◌≤◌, ℤ, Bool, true, false, ◌&&◌, ◌||◌, nat_eq, List, ◌++◌}
+use Rattle.std.specs.Prelude.{length, take, drop, Some, None}
 use Rattle.std.specs.Int.{w32, to_le_bytes, cast_unsigned}
 use Rattle.std.proofs.Common.{refl, sym, ap, ◌∙◌, subst, arith, length-append, length-drop}
 use Rattle.std.proofs.lemmas.List.{length-take-le}
@@ -12,7 +12,7 @@ use Rattle.w32_base.specs.declared.own.Own.{Own}
 use Rattle.w32_base.specs.declared.part.After.{After}
 use Rattle.w32_base.specs.Part.{may_keep_rank, is_progress, is_wait, is_lost_exchange, KeepsLengths}
 use Rattle.vm_spec.specs.Image.{image_of, with_image, with_word, moved_on, place_of, with_result}
-use Rattle.roster.specs.Turns.{Turn, Lowers}
+use Rattle.roster.specs.Turns.{Turn}
 use Rattle.layer_turns.specs.OwnTurns.{OwnTurn, goes_to, on_own, WentOn, can_take, answers, IsFair}
 
 pub same_lengths : (own : Own) → KeepsLengths own own

@@ -5,6 +5,8 @@
 mod calls;
 mod inner;
 mod results;
+#[cfg(test)]
+mod tests;
 mod words;
 
 pub use calls::{exchange, load, rest};
