@@ -1,0 +1,10 @@
+pub mod Start
+pub mod StartLaws
+pub mod Local
+pub mod Gets
+pub mod GetsLaws
+pub mod Idle
+pub mod Doing
+pub mod DoingLaws
+pub mod Actor
+pub mod ActorLaws
