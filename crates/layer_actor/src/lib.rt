@@ -10,6 +10,8 @@ mod idle;
 mod local;
 mod look;
 mod start;
+#[cfg(test)]
+mod tests;
 
 pub use actor::{Actor, MainThread, Serves};
 pub use doing::Doing;
