@@ -94,24 +94,31 @@ fn setup(alloc: Global) -> Result<Setup, Fail> {
     })
 }
 
+/// A process's memory with so many of two children in its list, processes 3 and 4.
+fn memory(alloc: Global, children: u8) -> Result<Own, Fail> {
+    let mut own = Own::new(alloc)?;
+    own.cyg.reset(288);
+    if own.cyg.len() == 288 {
+        own.cyg.set(156, children);
+    }
+    if children > 0 && own.cyg.len() == 288 {
+        own.cyg.set(160, 3);
+    }
+    if children > 1 && own.cyg.len() == 288 {
+        own.cyg.set(164, 4);
+    }
+    Ok(own)
+}
+
 /// An end, until its Win32 process has ended: its first three events.
 fn end(
     alloc: Global,
     machine: &mut Machine,
     part: &mut Exiting,
-    children: &[u8],
+    children: u8,
 ) -> Result<[Option<Event>; 3], Fail> {
     let setup = setup(alloc)?;
-    let mut own = Own::new(alloc)?;
-    own.cyg.reset(288);
-    if own.cyg.len() == 288 && children.len() < 33 {
-        own.cyg.set(156, children.len() as u8);
-        for i in 0..children.len() {
-            if 160 + 4 * i < 288 {
-                own.cyg.set(160 + 4 * i, children[i]);
-            }
-        }
-    }
+    let mut own = memory(alloc, children)?;
     let mut events = [None; 3];
     let mut count: usize = 0;
     for _ in 0..40 {
@@ -141,7 +148,7 @@ fn collect(by: u16) -> Result<Option<Event>, Fail> {
 fn an_exit_without_parent_collects_itself(rt: HostRuntime) -> Result<(), Fail> {
     let mut machine = machine_with([1, RUNS, FIRST, 0, 0, 0, 0, 0, 0, 0, 0, 0, 0]);
     let mut part = Exiting::new(RowNo::new(1), WinNo::new(2), Ending::Exit(7));
-    let events = end(rt.alloc(), &mut machine, &mut part, &[])?;
+    let events = end(rt.alloc(), &mut machine, &mut part, 0)?;
     assert_eq!(rt; events, [die(2, 7, Death::Exit)?, collect(2)?, None]);
     assert_eq!(rt;
         (machine.word(1), machine.word(3), machine.left),
@@ -170,7 +177,7 @@ fn zombie_children_are_collected_and_others_stay(rt: HostRuntime) -> Result<(), 
     ];
     let mut machine = machine_with(words);
     let mut part = Exiting::new(RowNo::new(1), WinNo::new(2), Ending::Signal(Signal::new(9)));
-    let events = end(rt.alloc(), &mut machine, &mut part, &[3, 4])?;
+    let events = end(rt.alloc(), &mut machine, &mut part, 2)?;
     assert_eq!(rt;
         events,
         [die(2, 265, Death::Signal)?, collect(3)?, collect(2)?]
@@ -186,7 +193,7 @@ fn zombie_children_are_collected_and_others_stay(rt: HostRuntime) -> Result<(), 
 fn a_zombie_is_left_to_its_live_parent(rt: HostRuntime) -> Result<(), Fail> {
     let mut machine = machine_with([2, RUNS, FIRST, 0, CHILD_RUNS, SECOND, 0, 0, 0, 0, 0, 0, 0]);
     let mut part = Exiting::new(RowNo::new(2), WinNo::new(3), Ending::Exit(9));
-    let events = end(rt.alloc(), &mut machine, &mut part, &[])?;
+    let events = end(rt.alloc(), &mut machine, &mut part, 0)?;
     assert_eq!(rt; events, [die(3, 9, Death::Exit)?, None, None]);
     assert_eq!(rt;
         (machine.word(4), machine.word(6), machine.left),
@@ -199,7 +206,7 @@ fn a_zombie_is_left_to_its_live_parent(rt: HostRuntime) -> Result<(), Fail> {
 fn a_fault_leaves_its_bit_and_a_dead_parent_doesnt_reap(rt: HostRuntime) -> Result<(), Fail> {
     let mut machine = machine_with([2, ZOMBIE, FIRST, 0, CHILD_RUNS, SECOND, 1, 0, 0, 0, 0, 0, 0]);
     let mut part = Exiting::new(RowNo::new(2), WinNo::new(3), Ending::Fault);
-    let events = end(rt.alloc(), &mut machine, &mut part, &[])?;
+    let events = end(rt.alloc(), &mut machine, &mut part, 0)?;
     assert_eq!(rt; events, [die(3, 267, Death::Fault)?, collect(3)?, None]);
     assert_eq!(rt;
         (machine.word(4), machine.word(6)),

@@ -1,5 +1,5 @@
 -- The host's starter: it waits for the end of the first process, and reads its code, with the event `host`.
-use Rattle.std.specs.Prelude.{ℕ, pos, [], ◌∷◌, Option, Some, None}
+use Rattle.std.specs.Prelude.{ℕ, pos, [], ◌∷◌, Some}
 use Rattle.w32_base.specs.declared.call.Call.{Call}
 use Rattle.w32_base.specs.declared.call.Call.TheVariants as call
 use Rattle.w32_base.specs.declared.call.Reply.{Reply}

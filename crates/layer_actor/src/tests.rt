@@ -76,7 +76,11 @@ impl Machine {
             Call::Load(_, place) => Reply::Word(self.word(*place)),
             Call::CompareExchange(_, place, old, new) => self.exchange(*place, *old, *new),
             Call::Event(_, _) | Call::Mutex(_) | Call::Open(_) => Reply::Handle(self.made()),
-            Call::Pipe => Reply::Two(self.made(), self.made()),
+            Call::Pipe => {
+                let reads = self.made();
+                let writes = self.made();
+                Reply::Two(reads, writes)
+            }
             Call::Resume(_, _) => {
                 self.resumed = self.resumed.wrapping_add(1);
                 Reply::Count(1)
@@ -211,7 +215,9 @@ fn a_block_has_its_event_and_a_fault_ends_the_process(rt: HostRuntime) -> Result
     let mut blocks = machine_with([1, RUNS, FIRST, 0, 0, 0, 0]);
     let found = events(rt.alloc(), &mut blocks, 1, 0, 8, 13)?;
     let run = Some(Event::Run(by, Number::unsigned(3)));
-    assert_eq!(rt; (found[0], found[1], found[2]), (run, run, None));
+    assert_eq!(rt; found[0], run);
+    assert_eq!(rt; found[1], run);
+    assert_eq!(rt; found[2], None);
     let mut fault = machine_with([1, RUNS, FIRST, 0, 0, 0, 0]);
     let found = events(rt.alloc(), &mut fault, 1, 0, 9, 100)?;
     assert_eq!(rt;
@@ -260,7 +266,8 @@ fn the_starter_tells_the_host_and_other_threads_rest(rt: HostRuntime) -> Result<
     let mut machine = machine_with([1, RUNS, FIRST, 0, 0, 0, 0]);
     let host = Some(Event::Host(Acting::host(), Number::unsigned(7)));
     let found = events(rt.alloc(), &mut machine, 0, 1, 0, 6)?;
-    assert_eq!(rt; (found[0], found[1]), (host, None));
+    assert_eq!(rt; found[0], host);
+    assert_eq!(rt; found[1], None);
     let mut helper = machine_with([1, RUNS, FIRST, 0, 0, 0, 0]);
     let found = events(rt.alloc(), &mut helper, 1, 2, 0, 6)?;
     assert_eq!(rt; found[0], None);
