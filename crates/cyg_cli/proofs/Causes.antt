@@ -224,7 +224,7 @@ asks_check words before after status entries (MadeInPart n script w forks same a
 asks_check words before after status entries (NotMade n w same s none) t = absurd (omega (arith, t, s))
 
 pub denied_told : (words : List (List ℕ)) (before after : Outside) (status : ℕ) (entries : List Entry)
-    → Ends words before after status entries → status ≡ 1 → Asks words Check × IsDenied before after
+    → Ends words before after status entries → status ≡ 1 → Asks words Check × IsDenied before.left before.held after.held
 denied_told words before after status entries ends one =
     let is = asks_check words before after status entries ends one in
     (is, check.denied before after status (check_told words before after status entries ends is).0 one)

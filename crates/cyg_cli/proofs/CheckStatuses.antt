@@ -1,16 +1,15 @@
 -- What each status of a `check` says.
 use Rattle.std.proofs.Common.{◌≡◌, ℕ, List, Option, Some, None, inl, inr, ◌⊎◌, refl, sym, ◌∙◌, ap, subst, arith}
-use Rattle.std.specs.Prelude.{IfSome, ◌≤◌, ◌<◌, length}
+use Rattle.std.specs.Prelude.{IfSome, ◌≤◌, length}
 use Rattle.std.specs.Io.KnownBytes.{Appends}
-use Rattle.script_spec.specs.declared.fault.Kind.TheVariants.{Large}
 use Rattle.cyg_io.specs.Counts.{Rose, RoseBy}
-use Rattle.cyg_io.specs.Source.{Draws, DrawsUpTo}
+use Rattle.cyg_io.specs.Source.{DrawsUpTo}
 use Rattle.run_check.specs.declared.judging.Judged.{Judged}
 use Rattle.run_check.specs.declared.judging.Judged.TheVariants as judged
 use Rattle.run_check.specs.declared.verdict.Verdict.TheVariants as verdict
 use Rattle.run_check.specs.Judging.{Judges}
 use Rattle.run_check.specs.OneJudgement.{one_judgement}
-use Rattle.cyg_cli.specs.Outside.{Outside, Supply, source_of, IsUnwritten}
+use Rattle.cyg_cli.specs.Outside.{Outside, Supply, source_of}
 use Rattle.cyg_cli.specs.AnswerLines.{line_of, answer_status}
 use Rattle.cyg_cli.specs.Checks.{IsAnswer, IsOfWhole, IsOfTooMany, IsJudged, Checks, Unread, Unjudged, Untold, Told, ToldInPart, ComesTo, ComesToItsText, IsAnswered, IsDenied, IsAnsweredOrShort, IsAnswerStatus}
 
@@ -126,7 +125,7 @@ at_seven before after status (ToldInPart j is app one s) t = absurd (omega (arit
 
 -- the statuses that go with an answer
 pub answered : (before after : Outside) (status : ℕ) → Checks before after status → AnswerGives status
-    → IsAnswered before after status
+    → IsAnswered before.left before.held after.held status
 answered before after status (Unread n u s) gives = absurd (never status (inr (omega (arith, s))) gives)
 answered before after status (Unjudged n u s) gives = absurd (never status (inr (omega (arith, s))) gives)
 answered before after status (Untold j is u s) gives = absurd (never status (inr (omega (arith, s))) gives)
@@ -141,11 +140,11 @@ judged_no None line rule h = tt
 judged_no (Some text) line rule (inl (few, h)) = h
 judged_no (Some text) line rule (inr (many, h)) = cc
 
-denied_by : (before after : Outside) (status : ℕ) (h : IsAnswered before after status) → answer_status h.answer ≡ 1
-    → IsDenied before after
+denied_by : (before after : Outside) (status : ℕ) (h : IsAnswered before.left before.held after.held status) → answer_status h.answer ≡ 1
+    → IsDenied before.left before.held after.held
 denied_by before after status h one = by_answer h.answer refl one
   where
-    by_answer : (j : Judged) → h.answer ≡ j → answer_status j ≡ 1 → IsDenied before after
+    by_answer : (j : Judged) → h.answer ≡ j → answer_status j ≡ 1 → IsDenied before.left before.held after.held
     by_answer (judged.ScriptFault line kind) is e = cc
     by_answer (judged.LogFault line) is e = cc
     by_answer (judged.Verdict verdict.Yes) is e = cc
@@ -156,7 +155,7 @@ denied_by before after status h one = by_answer h.answer refl one
       text = judged_no before.left line rule (subst (λ j. IfSome before.left (λ text. IsAnswer text j)) is h.text);
     }
 
-pub denied : (before after : Outside) (status : ℕ) → Checks before after status → status ≡ 1 → IsDenied before after
+pub denied : (before after : Outside) (status : ℕ) → Checks before after status → status ≡ 1 → IsDenied before.left before.held after.held
 denied before after status h one =
     let a = answered before after status h (inr (inl one)) in
     denied_by before after status a (sym a.status_is ∙ one)

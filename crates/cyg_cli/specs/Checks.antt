@@ -41,7 +41,7 @@ pub record IsJudged (before after : Supply) (j : Judged) : Type 0 where
   pub faults : after.faults ≡ before.faults
   pub read : IsOfWhole before after j ⊎ IsOfTooMany before after j
 
--- Why it isn't told what the source gives: the source had a fault and wasn't read further, or memory ran out.
+-- Why it isn't told what the source gives: the source had a fault before it answered its end, or memory ran out.
 abbrev pub IsNotJudged : Supply → Supply → NotJudged → Type 0
 IsNotJudged before after not_judged.Read =
     RoseBy 1 before.faults after.faults × (after.ends ≡ before.ends)
@@ -90,19 +90,19 @@ ComesToItsText before after status =
     IfSome before.left (λ text. (j : Judged) → IsAnswer text j → ComesTo before after status j)
 
 -- A line was written whole, with its status. Where the source told its bytes, it says what they are.
-pub record IsAnswered (before after : Outside) (status : ℕ) : Type 0 where
+pub record IsAnswered (left before now : Option (List ℕ)) (status : ℕ) : Type 0 where
   pub answer : Judged
   pub status_is : status ≡ answer_status answer
-  pub written : Appends before.held after.held (line_of answer)
-  pub text : IfSome before.left (λ text. IsAnswer text answer)
+  pub written : Appends before now (line_of answer)
+  pub text : IfSome left (λ text. IsAnswer text answer)
 
 -- The line `no LINE RULE` was written. Where the source told its bytes, the log's first event that is no step stands on
 -- this line and is of this kind.
-pub record IsDenied (before after : Outside) : Type 0 where
+pub record IsDenied (left before now : Option (List ℕ)) : Type 0 where
   pub line : ℕ
   pub rule : Rule
-  pub written : Appends before.held after.held (line_of (judged.Verdict (verdict.No line rule)))
-  pub text : IfSome before.left (λ text. Judges text (judged.Verdict (verdict.No line rule)))
+  pub written : Appends before now (line_of (judged.Verdict (verdict.No line rule)))
+  pub text : IfSome left (λ text. Judges text (judged.Verdict (verdict.No line rule)))
 
 -- what the text is was told, or memory ran out
 abbrev pub IsAnsweredOrShort : ℕ → List ℕ → Type 0

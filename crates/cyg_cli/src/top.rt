@@ -1,6 +1,7 @@
 //! The top call: from the words and the bytes of a script to the bytes of its log.
 
-ghost use Rattle.std.specs.Prelude.{◌≡◌, ◌≢◌, ◌<◌, ◌≤◌, [], ◌∷◌, ◌++◌, ◌↔◌, ◌⊎◌, List, ℕ, map, codes, IsTrue, IfOk, IfSome, OnOk, OnErr, MatchResult};
+ghost use Rattle.std.specs.Prelude.{◌≡◌, ◌≢◌, ◌<◌, ◌≤◌, [], ◌∷◌, ◌++◌, ◌↔◌, ◌⊎◌, List, ℕ, map, codes};
+ghost use Rattle.std.specs.Prelude.{IsTrue, IfOk, IfSome, OnOk, OnErr, MatchResult};
 ghost use Rattle.std.specs.String.{string_bytes};
 ghost use Rattle.std.specs.List.{AllPass};
 ghost use Rattle.first_layer_spec.specs.LogText.{is_built_entry};
@@ -101,8 +102,22 @@ pub fn run_top<S: Source, K: Sink>(
 ) -> TopAnswer
     // How it ended, with what was read, run and written.
     ensures story { Ends (map string_bytes words.now.items)
-        (record { left = S.remaining src.old; read_faults = S.faults src.old; given = S.given src.old; ends = S.ends src.old; held = K.held sink.old; write_faults = K.faults sink.old })
-        (record { left = S.remaining src.new; read_faults = S.faults src.new; given = S.given src.new; ends = S.ends src.new; held = K.held sink.new; write_faults = K.faults sink.new })
+        (record {
+          left = S.remaining src.old;
+          read_faults = S.faults src.old;
+          given = S.given src.old;
+          ends = S.ends src.old;
+          held = K.held sink.old;
+          write_faults = K.faults sink.old;
+        })
+        (record {
+          left = S.remaining src.new;
+          read_faults = S.faults src.new;
+          given = S.given src.new;
+          ends = S.ends src.new;
+          held = K.held sink.new;
+          write_faults = K.faults sink.new;
+        })
         result.status result.journal }
 
     // 2 is the answer exactly where the words aren't accepted. Nothing is then read or written.
@@ -112,8 +127,10 @@ pub fn run_top<S: Source, K: Sink>(
     ensures sink_untouched { result.status ≡ 2 → (K.held sink.new ≡ K.held sink.old) × (K.faults sink.new ≡ K.faults sink.old) }
 
     // With `run calls` 3 comes where the text was read and is no script of the first form. The refusal is what was written.
-    ensures refused { Asks (map string_bytes words.now.items) RunCalls → result.status ≡ 3 → IfSome (S.remaining src.old) IsUnbuilt × Appends (K.held sink.old) (K.held sink.new) refusal }
-    ensures refused_after { Asks (map string_bytes words.now.items) RunCalls → result.status ≡ 3 → IsRead (S.ends src.old) (S.ends src.new) (S.given src.old) (S.given src.new) }
+    ensures refused { Asks (map string_bytes words.now.items) RunCalls → result.status ≡ 3
+        → IfSome (S.remaining src.old) IsUnbuilt × Appends (K.held sink.old) (K.held sink.new) refusal }
+    ensures refused_after { Asks (map string_bytes words.now.items) RunCalls → result.status ≡ 3
+        → IsRead (S.ends src.old) (S.ends src.new) (S.given src.old) (S.given src.new) }
     ensures only_scripts_run { Asks (map string_bytes words.now.items) RunCalls
         → IfSome (S.remaining src.old) (λ text. IsUnbuilt text → (result.status ≢ 0) × (result.status ≢ 6)) }
 
@@ -128,7 +145,8 @@ pub fn run_top<S: Source, K: Sink>(
     ensures headline { result.journal ≢ [] → IsJournalOf (S.remaining src.old) result.journal }
 
     // A script is run, unless the source or the sink has a fault or memory runs out.
-    ensures complete { Asks (map string_bytes words.now.items) RunCalls → ¬ Rose (S.faults src.old) (S.faults src.new) → ¬ Rose (K.faults sink.old) (K.faults sink.new)
+    ensures complete { Asks (map string_bytes words.now.items) RunCalls → ¬ Rose (S.faults src.old) (S.faults src.new)
+        → ¬ Rose (K.faults sink.old) (K.faults sink.new)
         → IfSome (S.remaining src.old) (IsRunOrShort result.status) }
 
     // A script is made, unless the sink has a fault or memory runs out. The source isn't read.
@@ -140,30 +158,45 @@ pub fn run_top<S: Source, K: Sink>(
     // A `check` writes what its text is, unless the source or the sink has a fault or memory runs out. It runs no world,
     // and reads at most one byte past the limit of 67,108,864.
     ensures checked { Asks (map string_bytes words.now.items) Check → ComesToItsText
-        (record { left = S.remaining src.old; read_faults = S.faults src.old; given = S.given src.old; ends = S.ends src.old; held = K.held sink.old; write_faults = K.faults sink.old })
-        (record { left = S.remaining src.new; read_faults = S.faults src.new; given = S.given src.new; ends = S.ends src.new; held = K.held sink.new; write_faults = K.faults sink.new })
+        (record {
+          left = S.remaining src.old;
+          read_faults = S.faults src.old;
+          given = S.given src.old;
+          ends = S.ends src.old;
+          held = K.held sink.old;
+          write_faults = K.faults sink.old;
+        })
+        (record {
+          left = S.remaining src.new;
+          read_faults = S.faults src.new;
+          given = S.given src.new;
+          ends = S.ends src.new;
+          held = K.held sink.new;
+          write_faults = K.faults sink.new;
+        })
         result.status }
     ensures unrun { Asks (map string_bytes words.now.items) Check → result.journal ≡ [] }
-    ensures asked { Asks (map string_bytes words.now.items) Check → DrawsUpTo 67108865 (S.remaining src.old) (S.remaining src.new) (S.given src.old) (S.given src.new) }
+    ensures asked { Asks (map string_bytes words.now.items) Check
+        → DrawsUpTo 67108865 (S.remaining src.old) (S.remaining src.new) (S.given src.old) (S.given src.new) }
 
     // 0, 1 and 3 come with the whole line of an answer, and 1 only where the log has an event that is no step.
-    ensures answered { Asks (map string_bytes words.now.items) Check → (result.status ≡ 0) ⊎ (result.status ≡ 1) ⊎ (result.status ≡ 3) → IsAnswered
-        (record { left = S.remaining src.old; read_faults = S.faults src.old; given = S.given src.old; ends = S.ends src.old; held = K.held sink.old; write_faults = K.faults sink.old })
-        (record { left = S.remaining src.new; read_faults = S.faults src.new; given = S.given src.new; ends = S.ends src.new; held = K.held sink.new; write_faults = K.faults sink.new })
-        result.status }
-    ensures denied { result.status ≡ 1 → Asks (map string_bytes words.now.items) Check × IsDenied
-        (record { left = S.remaining src.old; read_faults = S.faults src.old; given = S.given src.old; ends = S.ends src.old; held = K.held sink.old; write_faults = K.faults sink.old })
-        (record { left = S.remaining src.new; read_faults = S.faults src.new; given = S.given src.new; ends = S.ends src.new; held = K.held sink.new; write_faults = K.faults sink.new }) }
+    ensures answered { Asks (map string_bytes words.now.items) Check → (result.status ≡ 0) ⊎ (result.status ≡ 1) ⊎ (result.status ≡ 3)
+        → IsAnswered (S.remaining src.old) (K.held sink.old) (K.held sink.new) result.status }
+    ensures denied { result.status ≡ 1 → Asks (map string_bytes words.now.items) Check
+        × IsDenied (S.remaining src.old) (K.held sink.old) (K.held sink.new) }
 
     // A text is answered, unless the source or the sink has a fault or memory runs out.
-    ensures complete_check { Asks (map string_bytes words.now.items) Check → ¬ Rose (S.faults src.old) (S.faults src.new) → ¬ Rose (K.faults sink.old) (K.faults sink.new)
+    ensures complete_check { Asks (map string_bytes words.now.items) Check → ¬ Rose (S.faults src.old) (S.faults src.new)
+        → ¬ Rose (K.faults sink.old) (K.faults sink.new)
         → IsAnswerStatus result.status × IfSome (S.remaining src.old) (IsAnsweredOrShort result.status) }
 
     // Where a `check` ends with 0 or 1, the source has answered its end.
-    ensures whole_check { Asks (map string_bytes words.now.items) Check → (result.status ≡ 0) ⊎ (result.status ≡ 1) → RoseBy 1 (S.ends src.old) (S.ends src.new) }
+    ensures whole_check { Asks (map string_bytes words.now.items) Check → (result.status ≡ 0) ⊎ (result.status ≡ 1)
+        → RoseBy 1 (S.ends src.old) (S.ends src.new) }
 
     // Where a run ends with 0 or 6, the source has answered its end.
-    ensures whole_run { Asks (map string_bytes words.now.items) RunCalls → result.status ≡ 0 → RoseBy 1 (S.ends src.old) (S.ends src.new) }
+    ensures whole_run { Asks (map string_bytes words.now.items) RunCalls → result.status ≡ 0
+        → RoseBy 1 (S.ends src.old) (S.ends src.new) }
     ensures part_run { result.status ≡ 6 → RoseBy 1 (S.ends src.old) (S.ends src.new) }
 {
     carry_out(alloc, words, src, sink)
@@ -176,8 +209,22 @@ fn carry_out<S: Source, K: Sink>(
     sink: &mut K,
 ) -> TopAnswer
     ensures story { Ends (map string_bytes words.now.items)
-        (record { left = S.remaining src.old; read_faults = S.faults src.old; given = S.given src.old; ends = S.ends src.old; held = K.held sink.old; write_faults = K.faults sink.old })
-        (record { left = S.remaining src.new; read_faults = S.faults src.new; given = S.given src.new; ends = S.ends src.new; held = K.held sink.new; write_faults = K.faults sink.new })
+        (record {
+          left = S.remaining src.old;
+          read_faults = S.faults src.old;
+          given = S.given src.old;
+          ends = S.ends src.old;
+          held = K.held sink.old;
+          write_faults = K.faults sink.old;
+        })
+        (record {
+          left = S.remaining src.new;
+          read_faults = S.faults src.new;
+          given = S.given src.new;
+          ends = S.ends src.new;
+          held = K.held sink.new;
+          write_faults = K.faults sink.new;
+        })
         result.status result.journal }
 {
     match command_of(words) {
@@ -190,8 +237,22 @@ fn carry_out<S: Source, K: Sink>(
 
 fn run_script<S: Source, K: Sink>(alloc: Global, src: &mut S, sink: &mut K) -> TopAnswer
     ensures story { (words : List (List ℕ)) → Asks words RunCalls → Ends words
-        (record { left = S.remaining src.old; read_faults = S.faults src.old; given = S.given src.old; ends = S.ends src.old; held = K.held sink.old; write_faults = K.faults sink.old })
-        (record { left = S.remaining src.new; read_faults = S.faults src.new; given = S.given src.new; ends = S.ends src.new; held = K.held sink.new; write_faults = K.faults sink.new })
+        (record {
+          left = S.remaining src.old;
+          read_faults = S.faults src.old;
+          given = S.given src.old;
+          ends = S.ends src.old;
+          held = K.held sink.old;
+          write_faults = K.faults sink.old;
+        })
+        (record {
+          left = S.remaining src.new;
+          read_faults = S.faults src.new;
+          given = S.given src.new;
+          ends = S.ends src.new;
+          held = K.held sink.new;
+          write_faults = K.faults sink.new;
+        })
         result.status result.journal }
 {
     let bytes = match read_all(alloc, src, MOST_BYTES) {
@@ -209,8 +270,22 @@ fn run_script<S: Source, K: Sink>(alloc: Global, src: &mut S, sink: &mut K) -> T
 
 fn check_log<S: Source, K: Sink>(alloc: Global, src: &mut S, sink: &mut K) -> Status
     ensures { Checks
-        (record { left = S.remaining src.old; read_faults = S.faults src.old; given = S.given src.old; ends = S.ends src.old; held = K.held sink.old; write_faults = K.faults sink.old })
-        (record { left = S.remaining src.new; read_faults = S.faults src.new; given = S.given src.new; ends = S.ends src.new; held = K.held sink.new; write_faults = K.faults sink.new })
+        (record {
+          left = S.remaining src.old;
+          read_faults = S.faults src.old;
+          given = S.given src.old;
+          ends = S.ends src.old;
+          held = K.held sink.old;
+          write_faults = K.faults sink.old;
+        })
+        (record {
+          left = S.remaining src.new;
+          read_faults = S.faults src.new;
+          given = S.given src.new;
+          ends = S.ends src.new;
+          held = K.held sink.new;
+          write_faults = K.faults sink.new;
+        })
         result }
 {
     match judge_all(alloc, src) {

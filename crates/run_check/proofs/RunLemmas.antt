@@ -4,7 +4,6 @@ use Rattle.std.proofs.Common.{sym, ap, subst, ◌∙◌, arith, drop-cons, lengt
 use Rattle.std.proofs.lemmas.List.{take_more, take_all, take-append-drop}
 use Rattle.w32_base.specs.declared.event.Event.{Event}
 use Rattle.script_spec.specs.declared.script.Script.{Script}
-use Rattle.posix_spec.specs.State.{PosixState}
 use Rattle.posix_spec.specs.Opening.{opening_of}
 use Rattle.posix_spec.specs.Run.{PosixRun}
 use Rattle.posix_spec.specs.Step.{posix_step}

@@ -203,14 +203,23 @@ fn long_text<R: AllocGlobal>(rt: &R, length: usize) -> Result<Vec<u8>, AllocErro
 }
 
 #[test]
-fn text_that_is_too_long(rt: HostRuntime) -> Result<(), Fail> {
+fn script_that_is_too_long(rt: HostRuntime) -> Result<(), Fail> {
+    let mut script = Vec::new(rt.alloc());
+    script.resize(1_048_576, b'\n')?;
+    expect(&rt, &script, b"==\n", 3, b"fault 1048577 NoHeader\n")?;
+    script.push(b'\n')?;
+    expect(&rt, &script, b"==\n", 3, b"fault 0 Large\n")?;
+    Ok(())
+}
+
+#[test]
+fn text_of_the_most_bytes(rt: HostRuntime) -> Result<(), Fail> {
     expect_text(&rt, long_text(&rt, MOST_BYTES)?, 3, b"fault 1 NoHeader\n")?;
+    Ok(())
+}
+
+#[test]
+fn text_that_is_too_long(rt: HostRuntime) -> Result<(), Fail> {
     expect_text(&rt, long_text(&rt, MOST_BYTES + 1)?, 3, b"fault 0 Large\n")?;
-    expect_text(
-        &rt,
-        long_text(&rt, MOST_BYTES + 9000)?,
-        3,
-        b"fault 0 Large\n",
-    )?;
     Ok(())
 }
