@@ -1,6 +1,6 @@
 //! Changes of the processes, and signals that are sent.
 
-ghost use Rattle.std.specs.Prelude.{◌≡◌, ◌<◌, IsTrue, OnOk, OnErr, Some};
+ghost use Rattle.std.specs.Prelude.{◌≡◌, ◌<◌, ◌≤◌, IsTrue, IsFalse, IsSomeAnd, OnOk, OnErr, Some};
 ghost use Rattle.posix_spec.specs.State.{Record, record_of};
 ghost use Rattle.posix_spec.specs.Records.{change_record};
 ghost use Rattle.posix_spec.specs.Sending as spec;
@@ -41,8 +41,10 @@ impl Machine {
 
     /// Whether one CHLD more may be owed to the process of a number.
     pub fn may_owe(&self, number: u32) -> bool
-        ensures { IsTrue result → (r : Record) → record_of (state_of self.now) number ≡ Some r → r.owed <
+        ensures fits { IsTrue result → (r : Record) → record_of (state_of self.now) number ≡ Some r → r.owed <
             18446744073709551615 }
+        ensures full { IsFalse result → IsSomeAnd (record_of (state_of self.now) number)
+            (λ r. 18446744073709551615 ≤ r.owed) }
     {
         match self.table.get(number) {
             Some(process) => process.owed < u64::MAX,

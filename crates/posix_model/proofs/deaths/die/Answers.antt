@@ -16,7 +16,7 @@ owe_more-requires c r there =
     let parent = c.from-parent.result in
     let status = c.in-Some-status_of_death.status in
     held_at s c.args.p (dead status) (λ x. x.owed < 18446744073709551615) (λ x. omega arith) parent
-    (c.may_owe.ensures c.if-not-may_owe.false) r
+    (c.may_owe.ensures.fits c.if-not-may_owe.false) r
     (sym (ap (λ (t : PosixState). record_at t parent) (c.note_status.ensures.state ∙ ap (with_status c.args.p status)
     c.change_own.ensures.state) ∙ record_of-with_status c.args.p status (change_record s c.args.p (dead status)) parent)
     ∙ there)

@@ -19,7 +19,7 @@ owe_more-requires c r there =
     let found = kept_at s c.args.p (stopped c.in-Some-deliverable_as.number.number) owed_in (λ x. refl)
     c.from-parent.result r
     (ap (λ (t : PosixState). record_at t c.from-parent.result) (sym c.change_own.ensures.state) ∙ there) in
-    subst P (sym found.2) (c.may_owe.ensures c.if-not-may_owe.false found.0 found.1)
+    subst P (sym found.2) (c.may_owe.ensures.fits c.if-not-may_owe.false found.0 found.1)
 
 pub returns : goal.returns
 returns c =

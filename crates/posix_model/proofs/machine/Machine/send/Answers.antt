@@ -13,7 +13,7 @@ owe_more-requires c r there =
     let P : ℕ → Type 0 = λ n. n < 18446744073709551615 in
     let found = kept_at s c.args.q (generated c.args.signal) owed_in (owed-generated c.args.signal)
     c.in-Some.parent r (ap (λ t. record_of t c.in-Some.parent) (sym c.change.ensures.state) ∙ there) in
-    subst P (sym found.2) (c.may_owe.ensures c.if-not-may_owe.false found.0 found.1)
+    subst P (sym found.2) (c.may_owe.ensures.fits c.if-not-may_owe.false found.0 found.1)
 
 pub returns-else-not-may_owe-clause-script : goal.returns-else-not-may_owe-clause-script
 returns-else-not-may_owe-clause-script c = c.owe_more.ensures.script ∙ c.change.ensures.script
