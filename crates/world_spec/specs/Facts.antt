@@ -1,0 +1,113 @@
+-- What every step keeps, by whomever it is made. These are the facts on which a thread relies between two of its turns:
+-- each says by whose turn something shared may change, so that everybody else may rely on it. A step is looked at once for
+-- each fact. That the other facts, of handles, bytes, lives, mutexes and posted calls, follow from the machine alone is
+-- proved in `StableFacts`, `StepFacts` and `PostedLaws` of `win32_spec`.
+use Rattle.std.specs.Prelude.{◌≡◌, ◌≢◌, ◌⊎◌, ℕ, ◌<◌, ◌≤◌, Bool, true, false, Option, Some, None}
+use Rattle.w32_base.specs.Part.{KeepsImage}
+use Rattle.win32_spec.specs.State.{Thread, Process, Win32State}
+use Rattle.win32_spec.specs.Lookup.{process_of, is_live, thread_of, memory_by}
+use Rattle.win32_spec.specs.Named.{named_by}
+use Rattle.win32_spec.specs.Facts.{IsTurnOf, IsTurnOfThread, IsWrittenTo}
+use Rattle.layer_spec.specs.Rows.{ExitWord, MainWord, RowKind, Free, Held, Running, Stopped, Zombie, Gone}
+use Rattle.layer_spec.specs.Decoding.{main_of, main_image, exit_of}
+use Rattle.layer_spec.specs.Words.{claimed_in, main_at, group_at, exit_at}
+use Rattle.layer_spec.specs.Moment.{HistoryStep}
+use Rattle.layer_spec.specs.Transitions.{Op, is_op}
+use Rattle.layer_spec.specs.Turns.{is_live_process}
+use Rattle.roster.specs.Roster.{HolderMayRely}
+use Rattle.roster.specs.Words.{changed_word, is_process_word, is_live_word}
+use Rattle.world_spec.specs.Made.{IsMaker, IsHeldBack, IsClaimedBy, IsNamed}
+
+-- a main word that is as before, or changed by an op of the table
+abbrev pub ChangesByTable : ℕ → ℕ → Type 0
+ChangesByTable w v = (v ≡ w) ⊎ ((op : Op) × (is_op op ≡ true) × (changed_word op w ≡ Some v))
+
+-- the three words of a row are as before
+pub record RowStays (old new : Win32State) (row : ℕ) : Type 0 where
+  pub main : main_at new row ≡ main_at old row
+  pub group : group_at new row ≡ group_at old row
+  pub exit : exit_at new row ≡ exit_at old row
+
+-- whether a row of this kind that was claimed is neither published nor dropped
+abbrev pub is_open_kind : RowKind → Bool
+is_open_kind Free = true
+is_open_kind Held = true
+is_open_kind Running = false
+is_open_kind Stopped = false
+is_open_kind Zombie = false
+is_open_kind Gone = false
+
+abbrev pub is_open_main : Option MainWord → Bool
+is_open_main None = false
+is_open_main (Some m) = is_open_kind m.kind
+
+-- the exit word of a row carries the image that its main word names
+pub record CarriesImage (s : Win32State) (row : ℕ) : Type 0 where
+  pub word : ExitWord
+  pub decodes : exit_of (exit_at s row) ≡ Some word
+  pub image : word.image ≡ main_image (main_at s row)
+
+-- how often thread t of process v is suspended, where there is one
+abbrev pub suspended_by : Option Thread → Option ℕ
+suspended_by None = None
+suspended_by (Some x) = Some x.suspended
+
+abbrev pub suspended_of : Win32State → (v t : ℕ) → Option ℕ
+suspended_of s v t = suspended_by (thread_of (process_of s.processes v) t)
+
+-- the step is a turn of the main thread of process v's maker, and no main word names v
+pub record IsMakersTurn {A : Type 0} (step : HistoryStep A) (v : ℕ) : Type 0 where
+  pub maker : ℕ
+  pub made : IsMaker step.past maker v
+  pub turn : IsTurnOfThread step.before.win32 step.entry.directive maker 0
+  pub unnamed : IsNamed step.before.win32 v → ⊥
+
+-- The facts of the words. Main words change by the table. The words of a row that nobody claimed stay. Those of a row
+-- that was claimed, until it is published or dropped, change only in turns of the main thread that claimed it. While a
+-- thread holds the roster mutex, others leave the roster as it is. The exit word of a row that is a process changes only
+-- in a turn of the main thread of the named image, and only while it doesn't carry that image. The named image of a live
+-- row changes only in such a turn, and so does a live row become a zombie while its image is alive.
+pub record KeepsWords {A : Type 0} (step : HistoryStep A) : Type 0 where
+  pub mains : (row : ℕ) → 1 ≤ row → ChangesByTable (main_at step.before.win32 row) (main_at step.after.win32 row)
+  pub unclaimed : (row : ℕ) → claimed_in step.before.win32 < row → RowStays step.before.win32 step.after.win32 row
+  pub claimed : (row w : ℕ) → IsClaimedBy step.past row w
+      → is_open_main (main_of (main_at step.before.win32 row)) ≡ true
+      → (IsTurnOfThread step.before.win32 step.entry.directive w 0 → ⊥)
+      → RowStays step.before.win32 step.after.win32 row
+  pub holder : HolderMayRely step.before.win32 step.entry.directive step.after.win32
+  pub exits : (row : ℕ) → 1 ≤ row → is_process_word (main_at step.before.win32 row) ≡ true
+      → (exit_at step.after.win32 row ≡ exit_at step.before.win32 row)
+      ⊎ (IsTurnOfThread step.before.win32 step.entry.directive (main_image (main_at step.before.win32 row)) 0
+      × (CarriesImage step.before.win32 row → ⊥))
+  pub images : (row : ℕ) → 1 ≤ row → is_live_word (main_at step.before.win32 row) ≡ true
+      → is_live_word (main_at step.after.win32 row) ≡ true
+      → (main_image (main_at step.after.win32 row) ≡ main_image (main_at step.before.win32 row))
+      ⊎ IsTurnOfThread step.before.win32 step.entry.directive (main_image (main_at step.before.win32 row)) 0
+  pub seals : (row : ℕ) → 1 ≤ row → is_live_word (main_at step.before.win32 row) ≡ true
+      → is_live_word (main_at step.after.win32 row) ≡ false
+      → (is_live_process step.before.win32 (main_image (main_at step.before.win32 row)) ≡ false)
+      ⊎ IsTurnOfThread step.before.win32 step.entry.directive (main_image (main_at step.before.win32 row)) 0
+
+-- The facts of processes. Handles 1 to 8 of a live process, once it has them, name the same for ever, also in its own
+-- turns. The bytes of a process are written by another only in turns of its maker, before a main word names it. While it
+-- is held back, its own turns leave data, heap and stack alone. Threads 1 and 2 leave them alone always. A thread is
+-- suspended and resumed only in turns of its own process, or of its maker before a main word names it.
+pub record KeepsProcesses {A : Type 0} (step : HistoryStep A) : Type 0 where
+  pub handles : (v h names : ℕ) → h ≤ 8 → named_by step.before.win32 v h ≡ Some names
+      → is_live_process step.after.win32 v ≡ true → named_by step.after.win32 v h ≡ Some names
+  pub writes : (v : ℕ) → IsWrittenTo step.before.win32 step.entry.directive step.entry.call v → IsMakersTurn step v
+  pub held_back : (v : ℕ) → IsHeldBack step.past step.before.win32 v
+      → IsTurnOf step.before.win32 step.entry.directive v → is_live_process step.after.win32 v ≡ true
+      → KeepsImage (memory_by step.before.win32 v) (memory_by step.after.win32 v)
+  pub helpers : (v t : ℕ) → IsTurnOfThread step.before.win32 step.entry.directive v t → t ≢ 0
+      → is_live_process step.after.win32 v ≡ true
+      → KeepsImage (memory_by step.before.win32 v) (memory_by step.after.win32 v)
+  pub suspends : (v t : ℕ) → is_live_process step.before.win32 v ≡ true → is_live_process step.after.win32 v ≡ true
+      → (suspended_of step.after.win32 v t ≡ suspended_of step.before.win32 v t)
+      ⊎ IsTurnOf step.before.win32 step.entry.directive v ⊎ IsMakersTurn step v
+
+-- The host lives for ever: no step ends it.
+pub record KeepsFacts {A : Type 0} (step : HistoryStep A) : Type 0 where
+  pub words : KeepsWords step
+  pub processes : KeepsProcesses step
+  pub host : is_live_process step.before.win32 1 ≡ true → is_live_process step.after.win32 1 ≡ true

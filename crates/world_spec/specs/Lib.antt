@@ -1,0 +1,5 @@
+pub mod Made
+pub mod Facts
+pub mod SeenStep
+pub mod Owes
+pub mod World
