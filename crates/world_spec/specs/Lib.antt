@@ -3,3 +3,11 @@ pub mod Facts
 pub mod SeenStep
 pub mod Owes
 pub mod World
+pub mod DecodesLaws
+pub mod EndLaws
+pub mod Calm
+pub mod CalmLaws
+pub mod HostLaws
+pub mod StepLaws
+pub mod CalmSteps
+pub mod WorldLaws
