@@ -11,3 +11,7 @@ pub mod HostLaws
 pub mod StepLaws
 pub mod CalmSteps
 pub mod WorldLaws
+pub mod TurnLaws
+pub mod Resting
+pub mod RestingLaws
+pub mod WorldOpening

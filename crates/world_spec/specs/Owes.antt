@@ -15,6 +15,7 @@ use Rattle.win32_spec.specs.Driven.{Parts, IsOpened}
 use Rattle.win32_spec.specs.Lookup.{process_of, is_live, number_in, memory_by, with_own, with_posted}
 use Rattle.win32_spec.specs.Named.{object_by}
 use Rattle.win32_spec.specs.Opening.{IsOpening}
+use Rattle.win32_spec.specs.Ready.{is_ready}
 use Rattle.win32_spec.specs.Run.{PostedStep}
 use Rattle.win32_spec.specs.WellFormed.{IsWellFormed}
 use Rattle.posix_spec.specs.Opening.{opening_of}
@@ -32,7 +33,7 @@ pub record IsHosted (s : Win32State) : Type 0 where
   pub terminal : (x : Terminal) × (object_by s 1 3 ≡ Some (TerminalObject x))
 
 -- A moment at which a turn is looked at, beside the clause of the thread whose turn it is.
-pub record IsGround {A : Type 0} (script : Script) (now : Moment A) : Type 0 where
+pub record IsSoundMoment {A : Type 0} (script : Script) (now : Moment A) : Type 0 where
   pub formed : IsWellFormed script now.win32
   pub hosted : IsHosted now.win32
   pub decodes : Decodes script now.win32 now.posix
@@ -43,13 +44,13 @@ module _ {P : Type 0} (posted_of : P → Call) (goes : P → Own → Setup → R
   -- event, and posts its next call.
   pub record LivesOn (mid : Win32State) (w t : ℕ) (part : P) (reply : Reply) (given : Option Event) (next : Option P)
       (new : Win32State) : Type 0 where
-    pub then : P
-    pub here : next ≡ Some then
+    pub part_after : P
+    pub here : next ≡ Some part_after
     pub own : Own
     pub answer : After
-    pub went : goes part (memory_by mid w) script.setup reply then own answer
+    pub went : goes part (memory_by mid w) script.setup reply part_after own answer
     pub told : given ≡ answer.event
-    pub after : new ≡ with_posted (with_own mid w own) w t (posted_of then)
+    pub after : new ≡ with_posted (with_own mid w own) w t (posted_of part_after)
 
   -- A turn of a part: its posted call is carried out with this reply. Where its process lives on, the part is `next`
   -- after it. Where the call ended the process, there is no part and no event.
@@ -59,6 +60,7 @@ module _ {P : Type 0} (posted_of : P → Call) (goes : P → Own → Setup → R
     pub thread : Thread
     pub mid : Win32State
     pub posted : PostedStep script s slot t process thread reply mid
+    pub ready : is_ready s slot t ≡ true
     pub called_is : called ≡ thread.posted
     pub own_call : thread.posted ≡ posted_of part
     pub goes_on : MatchBool (is_live (process_of mid.processes process.number))
@@ -88,7 +90,7 @@ module _ {A P : Type 0} (posted_of : P → Call) (goes : P → Own → Setup →
         → is_live_process step.before.win32 w ≡ true → is_live_process step.after.win32 w ≡ true
         → clause step.past step.before w part → clause (seen_with step) step.after w part
     pub turns : (past : List (Seen A)) (now : Moment A) (slot t : ℕ) (part : P) (called : Call) (reply : Reply)
-        (given : Option Event) (next : Option P) (new : Win32State) → IsGround script now → thread_of_part part ≡ t
+        (given : Option Event) (next : Option P) (new : Win32State) → IsSoundMoment script now → thread_of_part part ≡ t
         → (turn : OwnTurn posted_of goes script now.win32 slot t part called reply given next new)
         → clause past now turn.process.number part
         → KeepsTurn past now slot t turn.process.number called reply given next new

@@ -298,10 +298,11 @@ module _ {A : Type 0} (posted_of : A → Call) (goes : A → Own → Setup → R
               thread = of.thread;
               mid = of.mid;
               posted = of.posted;
+              ready = ready;
               called_is = of.carried_out;
               own_call = own_call;
               goes_on = match_true _ _ (is_live (process_of of.mid.processes w)) live (record {
-                then = m.0;
+                part_after = m.0;
                 here = refl;
                 own = m.1.own;
                 answer = m.1.answer;
@@ -329,6 +330,7 @@ module _ {A : Type 0} (posted_of : A → Call) (goes : A → Own → Setup → R
               thread = of.thread;
               mid = of.mid;
               posted = of.posted;
+              ready = ready;
               called_is = of.carried_out;
               own_call = own_call;
               goes_on = match_false _ _ (is_live (process_of of.mid.processes w)) dead (m.0, m.1, refl);
