@@ -1,5 +1,5 @@
 -- Changes that touch nothing which is shown: the words of the section, the terminal, and of each live process its image,
--- cygheap, modules, suspend counts and handles 1 to 8 stay. Most turns make no other.
+-- cygheap, modules, suspend counts and handles stay; handles may come. Most turns make no other.
 use Rattle.std.specs.Prelude.{◌≡◌, ℕ, ◌≤◌, Bool, true, false, Option, Some, None}
 use Rattle.w32_base.specs.Part.{KeepsImage}
 use Rattle.w32_base.specs.declared.call.Call.{Call}
@@ -18,7 +18,7 @@ pub record CalmProcess (p q : Process) : Type 0 where
   pub cyg : q.own.cyg ≡ p.own.cyg
   pub placed : q.placed ≡ p.placed
   pub suspended : (t : ℕ) → suspended_by (thread_in q.threads t) ≡ suspended_by (thread_in p.threads t)
-  pub handles : (h names : ℕ) → h ≤ 8 → handle_of p.handles h ≡ Some names → handle_of q.handles h ≡ Some names
+  pub handles : (h names : ℕ) → handle_of p.handles h ≡ Some names → handle_of q.handles h ≡ Some names
 
 -- the state before and after: each process that is alive after it was alive before it
 pub record IsCalm (s new : Win32State) : Type 0 where

@@ -1,6 +1,6 @@
 -- A step without an event that makes a calm change by a plain call, or by none, shows all that is to show.
 use Rattle.std.proofs.Common.{◌≡◌, ◌≢◌, inl, inr, ℕ, ◌≤◌, Bool, true, false, ◌∷◌, List, Option, Some, None, MatchOption}
-use Rattle.std.proofs.Common.{refl, sym, ap, ◌∙◌, subst}
+use Rattle.std.proofs.Common.{refl, sym, ap, ◌∙◌, subst, arith}
 use Rattle.w32_base.specs.Part.{KeepsImage}
 use Rattle.w32_base.specs.declared.call.Call.{Call}
 use Rattle.w32_base.specs.declared.call.Call.TheVariants as call
@@ -31,10 +31,12 @@ use Rattle.world_spec.specs.SeenStep.{ShowsStep}
 use Rattle.world_spec.specs.DecodesLaws.{decodes-stays}
 use Rattle.world_spec.specs.Calm.{IsCalm, CalmProcess, is_plain_call, is_plain}
 
--- Where no word changes, the facts of the words hold.
+-- Where no word changes and no row is claimed, the facts of the words hold.
 pub words-kept : {A : Type 0} → (step : HistoryStep A) → ((i : ℕ) → word_in step.after.win32 i ≡ word_in step.before.win32 i)
-    → KeepsWords step
-words-kept step same = record {
+    → is_plain step.entry.call ≡ true → KeepsWords step
+words-kept step same plain = record {
+  grows = omega (arith, same 0);
+  claims = λ row w claim. absurd (let e : false ≡ true = ap is_plain (sym claim.asks) ∙ plain in cc);
   mains = λ row from. inl (same (main_place row));
   unclaimed = λ row above. row_stays row;
   claimed = λ row w claim is_open apart. row_stays row;
@@ -46,6 +48,10 @@ words-kept step same = record {
   exits = λ row from is. inl (same (exit_place row));
   images = λ row from live lives. inl (ap main_image (same (main_place row)));
   seals = λ row from live dead. absurd (let e : true ≡ false = sym live ∙ (sym (ap is_live_word (same (main_place row))) ∙ dead) in cc);
+  names = λ row from live other. absurd (elim other [
+    | inl dead ↦ let e : true ≡ false = sym live ∙ (ap is_live_word (same (main_place row)) ∙ dead) in cc
+    | inr differs ↦ differs (ap main_image (same (main_place row)))
+  ]);
 }
   where
     row_stays : (row : ℕ) → RowStays step.before.win32 step.after.win32 row
@@ -87,14 +93,19 @@ module _ {A : Type 0} (script : Script) (step : HistoryStep A) (calm : IsCalm st
       subst (λ o. KeepsImage (memory_of o) (memory_by step.after.win32 v)) (sym at.3)
       (subst (λ o. KeepsImage at.1.own (memory_of o)) (sym at.2) at.4.image)
 
+  still_named : (v h names : ℕ) → named_by step.before.win32 v h ≡ Some names
+      → is_live_process step.after.win32 v ≡ true → named_by step.after.win32 v h ≡ Some names
+  still_named v h names named live =
+      let at = was v live in
+      ap (λ o. handle_of (handles_of o) h) at.2
+      ∙ at.4.handles h names (ap (λ o. handle_of (handles_of o) h) (sym at.3) ∙ named)
+
   processes_kept : is_plain step.entry.call ≡ true → KeepsProcesses step
   processes_kept plain = record {
-    handles = λ v h names few named live.
-        let at = was v live in
-        ap (λ o. handle_of (handles_of o) h) at.2
-        ∙ at.4.handles h names few (ap (λ o. handle_of (handles_of o) h) (sym at.3) ∙ named);
+    low_handles = λ v h names few named live. still_named v h names named live;
+    own_handles = λ v h names named live other. still_named v h names named live;
     writes = λ v written. absurd (plain_written step.before.win32 step.entry.directive step.entry.call v plain written);
-    held_back = λ v held acts live. image_kept v live;
+    unnamed = λ v is acts live. image_kept v live;
     helpers = λ v t acts other live. image_kept v live;
     suspends = λ v t before live.
         let at = was v live in
@@ -133,5 +144,5 @@ module _ {A : Type 0} (script : Script) (step : HistoryStep A) (calm : IsCalm st
             (at.1, at.2, record { image = at.3.image; cyg = at.3.cyg; placed = at.3.placed }),
           );
         }) decoded);
-    facts = record { words = words-kept step calm.words; processes = processes_kept plain; host = host };
+    facts = record { words = words-kept step calm.words plain; processes = processes_kept plain; host = host };
   }

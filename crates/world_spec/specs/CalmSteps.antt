@@ -18,7 +18,7 @@ use Rattle.win32_spec.specs.FormedLaws.{of_live}
 use Rattle.win32_spec.specs.LookupLaws.{changed_process}
 use Rattle.win32_spec.specs.PostedLaws.{thread_in-other}
 use Rattle.world_spec.specs.Facts.{suspended_by}
-use Rattle.world_spec.specs.Owes.{IsHosted}
+use Rattle.world_spec.specs.Sound.{IsHosted}
 use Rattle.world_spec.specs.Calm.{CalmProcess, IsCalm}
 use Rattle.world_spec.specs.EndLaws.{section-end, terminal-end, process-end}
 
@@ -29,7 +29,7 @@ calm_process p = record {
   cyg = refl;
   placed = refl;
   suspended = λ t. refl;
-  handles = λ h names few e. e;
+  handles = λ h names e. e;
 }
 
 then_process : (p q r : Process) → CalmProcess p q → CalmProcess q r → CalmProcess p r
@@ -42,7 +42,7 @@ then_process p q r a b = record {
   cyg = b.cyg ∙ a.cyg;
   placed = b.placed ∙ a.placed;
   suspended = λ t. b.suspended t ∙ a.suspended t;
-  handles = λ h names few e. b.handles h names few (a.handles h names few e);
+  handles = λ h names e. b.handles h names (a.handles h names e);
 }
 
 -- One calm change after another is calm.
@@ -144,7 +144,7 @@ calm-acts mid w t own next image cyg = record {
                   cyg = cyg ∙ ap (λ o. let m : Own = memory_of o in m.cyg) that.2;
                   placed = refl;
                   suspended = λ u. same_suspended t next p.threads u;
-                  handles = λ h names few f. f;
+                  handles = λ h names f. f;
                 }),
               )
         ]

@@ -18,7 +18,7 @@ use Rattle.win32_spec.specs.LookupLaws.{rising-change_process}
 use Rattle.win32_spec.specs.HeldLaws.{is-held, kept_process, kept_process-stays}
 use Rattle.win32_spec.specs.FormedLaws.{live_found}
 use Rattle.win32_spec.specs.ObjectLaws.{rising_objects-bound}
-use Rattle.world_spec.specs.Owes.{IsHosted}
+use Rattle.world_spec.specs.Sound.{IsHosted}
 
 -- an object that is found behind the first one is found with it in front
 found-later : (low : ℕ) (x : NumberedObject) (xs : List NumberedObject) → AreRisingObjects low (x ∷ xs) → (o : ℕ)

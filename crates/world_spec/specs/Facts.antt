@@ -2,7 +2,7 @@
 -- each says by whose turn something shared may change, so that everybody else may rely on it. A step is looked at once for
 -- each fact. That the other facts, of handles, bytes, lives, mutexes and posted calls, follow from the machine alone is
 -- proved in `StableFacts`, `StepFacts` and `PostedLaws` of `win32_spec`.
-use Rattle.std.specs.Prelude.{◌≡◌, ◌≢◌, ◌⊎◌, ℕ, ◌<◌, ◌≤◌, Bool, true, false, Option, Some, None}
+use Rattle.std.specs.Prelude.{◌≡◌, ◌≢◌, ◌⊎◌, ℕ, ◌+◌, ◌<◌, ◌≤◌, Bool, true, false, Option, Some, None}
 use Rattle.w32_base.specs.Part.{KeepsImage}
 use Rattle.win32_spec.specs.State.{Thread, Process, Win32State}
 use Rattle.win32_spec.specs.Lookup.{process_of, is_live, thread_of, memory_by}
@@ -16,7 +16,7 @@ use Rattle.layer_spec.specs.Transitions.{Op, is_op}
 use Rattle.layer_spec.specs.Turns.{is_live_process}
 use Rattle.roster.specs.Roster.{HolderMayRely}
 use Rattle.roster.specs.Words.{changed_word, is_process_word, is_live_word}
-use Rattle.world_spec.specs.Made.{IsMaker, IsHeldBack, IsClaimedBy, IsNamed}
+use Rattle.world_spec.specs.Made.{IsMaker, Claims, IsClaimedBy, opener_of, IsNamed}
 
 -- a main word that is as before, or changed by an op of the table
 abbrev pub ChangesByTable : ℕ → ℕ → Type 0
@@ -62,12 +62,25 @@ pub record IsMakersTurn {A : Type 0} (step : HistoryStep A) (v : ℕ) : Type 0 w
   pub turn : IsTurnOfThread step.before.win32 step.entry.directive maker 0
   pub unnamed : IsNamed step.before.win32 v → ⊥
 
--- The facts of the words. Main words change by the table. The words of a row that nobody claimed stay. Those of a row
--- that was claimed, until it is published or dropped, change only in turns of the main thread that claimed it. While a
--- thread holds the roster mutex, others leave the roster as it is. The exit word of a row that is a process changes only
--- in a turn of the main thread of the named image, and only while it doesn't carry that image. The named image of a live
--- row changes only in such a turn, and so does a live row become a zombie while its image is alive.
+-- The main word of a row comes to name a process in this step: in a turn of the main thread of that process's maker. No
+-- row named it before, and every other main word stays.
+pub record Names {A : Type 0} (step : HistoryStep A) (row : ℕ) : Type 0 where
+  pub turn : IsMakersTurn step (main_image (main_at step.after.win32 row))
+  pub others : (other : ℕ) → 1 ≤ other → other ≢ row
+      → main_at step.after.win32 other ≡ main_at step.before.win32 other
+
+-- The facts of the words.
+-- The number of claimed rows never falls, and whoever claims a row is answered that number and adds one to it.
+-- Main words change by the table. The words of a row that nobody claimed stay. Those of a row that was claimed, until it
+-- is published or dropped, change only in turns of the main thread that claimed it.
+-- While a thread holds the roster mutex, others leave the roster as it is.
+-- The exit word of a row that is a process changes only in a turn of the main thread of the named image, and only while
+-- it doesn't carry that image. The named image of a live row changes only in such a turn, and so does a live row become a
+-- zombie while its image is alive. A live row comes to name a process only as `Names` says.
 pub record KeepsWords {A : Type 0} (step : HistoryStep A) : Type 0 where
+  pub grows : claimed_in step.before.win32 ≤ claimed_in step.after.win32
+  pub claims : (row w : ℕ) → Claims row w (record { before = step.before; entry = step.entry })
+      → (row ≡ claimed_in step.before.win32 + 1) × (claimed_in step.after.win32 ≡ row)
   pub mains : (row : ℕ) → 1 ≤ row → ChangesByTable (main_at step.before.win32 row) (main_at step.after.win32 row)
   pub unclaimed : (row : ℕ) → claimed_in step.before.win32 < row → RowStays step.before.win32 step.after.win32 row
   pub claimed : (row w : ℕ) → IsClaimedBy step.past row w
@@ -87,16 +100,26 @@ pub record KeepsWords {A : Type 0} (step : HistoryStep A) : Type 0 where
       → is_live_word (main_at step.after.win32 row) ≡ false
       → (is_live_process step.before.win32 (main_image (main_at step.before.win32 row)) ≡ false)
       ⊎ IsTurnOfThread step.before.win32 step.entry.directive (main_image (main_at step.before.win32 row)) 0
+  pub names : (row : ℕ) → 1 ≤ row → is_live_word (main_at step.after.win32 row) ≡ true
+      → (is_live_word (main_at step.before.win32 row) ≡ false)
+      ⊎ (main_image (main_at step.after.win32 row) ≢ main_image (main_at step.before.win32 row))
+      → Names step row
 
--- The facts of processes. Handles 1 to 8 of a live process, once it has them, name the same for ever, also in its own
--- turns. The bytes of a process are written by another only in turns of its maker, before a main word names it. While it
--- is held back, its own turns leave data, heap and stack alone. Threads 1 and 2 leave them alone always. A thread is
--- suspended and resumed only in turns of its own process, or of its maker before a main word names it.
+-- The facts of processes.
+-- Handles 1 to 8 of a live process, once it has them, name the same for ever, also in its own turns. Every other handle
+-- names the same but in turns of the thread to which it was answered.
+-- The bytes of a process are written by another only in turns of its maker, before a main word names it. While none names
+-- it, its own turns leave data, heap and stack alone too. Its threads 1 and 2 leave them alone always.
+-- A thread is suspended and resumed only in turns of its own process, or of its maker before a main word names it.
 pub record KeepsProcesses {A : Type 0} (step : HistoryStep A) : Type 0 where
-  pub handles : (v h names : ℕ) → h ≤ 8 → named_by step.before.win32 v h ≡ Some names
+  pub low_handles : (v h names : ℕ) → h ≤ 8 → named_by step.before.win32 v h ≡ Some names
       → is_live_process step.after.win32 v ≡ true → named_by step.after.win32 v h ≡ Some names
+  pub own_handles : (v h names : ℕ) → named_by step.before.win32 v h ≡ Some names
+      → is_live_process step.after.win32 v ≡ true
+      → (IsTurnOfThread step.before.win32 step.entry.directive v (opener_of step.past v h) → ⊥)
+      → named_by step.after.win32 v h ≡ Some names
   pub writes : (v : ℕ) → IsWrittenTo step.before.win32 step.entry.directive step.entry.call v → IsMakersTurn step v
-  pub held_back : (v : ℕ) → IsHeldBack step.past step.before.win32 v
+  pub unnamed : (v : ℕ) → (IsNamed step.before.win32 v → ⊥)
       → IsTurnOf step.before.win32 step.entry.directive v → is_live_process step.after.win32 v ≡ true
       → KeepsImage (memory_by step.before.win32 v) (memory_by step.after.win32 v)
   pub helpers : (v t : ℕ) → IsTurnOfThread step.before.win32 step.entry.directive v t → t ≢ 0
@@ -106,7 +129,7 @@ pub record KeepsProcesses {A : Type 0} (step : HistoryStep A) : Type 0 where
       → (suspended_of step.after.win32 v t ≡ suspended_of step.before.win32 v t)
       ⊎ IsTurnOf step.before.win32 step.entry.directive v ⊎ IsMakersTurn step v
 
--- The host lives for ever: no step ends it.
+-- All of them; and the host lives for ever.
 pub record KeepsFacts {A : Type 0} (step : HistoryStep A) : Type 0 where
   pub words : KeepsWords step
   pub processes : KeepsProcesses step

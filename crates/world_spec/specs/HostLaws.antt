@@ -17,7 +17,7 @@ use Rattle.win32_spec.specs.WellFormed.{IsWellFormed}
 use Rattle.win32_spec.specs.FormedLaws.{of_live, from_listed, live_found}
 use Rattle.layer_spec.specs.Moment.{HistoryStep}
 use Rattle.layer_spec.specs.Turns.{is_live_process}
-use Rattle.world_spec.specs.Owes.{IsHosted}
+use Rattle.world_spec.specs.Sound.{IsHosted}
 use Rattle.world_spec.specs.SeenStep.{IsSeenStep}
 use Rattle.world_spec.specs.EndLaws.{named_found}
 
@@ -42,11 +42,14 @@ terminal_next E w t x (ProcessObject v) h = absurd h
 terminal_next E w t x (TerminalObject other) h = (other, refl)
 
 module _ {A : Type 0} (script : Script) (step : HistoryStep A) (registers : HaveRegisters script)
-    (seen : IsSeenStep script step) (hosted : IsHosted step.before.win32) where
-  after_formed : IsWellFormed script step.after.win32
+    (seen : IsSeenStep script step) where
+  abbrev hosted : IsHosted step.before.win32
+  hosted = seen.before.hosted
+
+  pub after_formed : IsWellFormed script step.after.win32
   after_formed =
       wellformed-step script step.before.win32 step.entry.directive step.entry.call step.entry.outcome step.after.win32
-      registers seen.formed seen.win32
+      registers seen.before.formed seen.win32
 
   host_lives : is_live_process step.after.win32 1 ≡ true
   host_lives = seen.shows.facts.host hosted.lives
@@ -57,7 +60,7 @@ module _ {A : Type 0} (script : Script) (step : HistoryStep A) (registers : Have
       × ObjectAfter step.before.win32 step.entry.directive step.entry.call x y
   still_named k x few e =
       let at = named_found step.before.win32 1 k x e in
-      let named = seen.shows.facts.processes.handles 1 k at.0 few at.1 host_lives in
+      let named = seen.shows.facts.processes.low_handles 1 k at.0 few at.1 host_lives in
       let q = live_found (process_of step.after.win32.processes 1) host_lives in
       let live = of_live script step.after.win32.objects q.0 q.0.life q.2 (after_formed.formed.process 1 q.0 q.1) in
       let listed = from_listed step.after.win32.objects at.0
@@ -66,7 +69,7 @@ module _ {A : Type 0} (script : Script) (step : HistoryStep A) (registers : Have
         listed.0,
         ap (object_at step.after.win32) named ∙ listed.1,
         object-step script step.before.win32 step.entry.directive step.entry.call step.entry.outcome step.after.win32
-            registers seen.formed seen.win32 (object_number at.0) x listed.0 at.2 listed.1,
+            registers seen.before.formed seen.win32 (object_number at.0) x listed.0 at.2 listed.1,
       )
 
   pub hosted-step : IsHosted step.after.win32

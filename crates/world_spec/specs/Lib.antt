@@ -1,5 +1,6 @@
 pub mod Made
 pub mod Facts
+pub mod Sound
 pub mod SeenStep
 pub mod Owes
 pub mod World
@@ -8,10 +9,10 @@ pub mod EndLaws
 pub mod Calm
 pub mod CalmLaws
 pub mod HostLaws
+pub mod SoundLaws
 pub mod StepLaws
 pub mod CalmSteps
 pub mod WorldLaws
 pub mod TurnLaws
 pub mod Resting
 pub mod RestingLaws
-pub mod WorldOpening

@@ -8,35 +8,20 @@ use Rattle.w32_base.specs.declared.event.Event.{Event}
 use Rattle.w32_base.specs.declared.own.Own.{Own}
 use Rattle.w32_base.specs.declared.part.After.{After}
 use Rattle.w32_base.specs.declared.setup.Setup.{Setup}
-use Rattle.tty_spec.specs.Terminal.{Terminal}
 use Rattle.script_spec.specs.declared.script.Script.{Script}
-use Rattle.win32_spec.specs.State.{Thread, Process, TerminalObject, Section, Win32State}
+use Rattle.win32_spec.specs.State.{Thread, Process, Win32State}
 use Rattle.win32_spec.specs.Driven.{Parts, IsOpened}
 use Rattle.win32_spec.specs.Lookup.{process_of, is_live, number_in, memory_by, with_own, with_posted}
-use Rattle.win32_spec.specs.Named.{object_by}
 use Rattle.win32_spec.specs.Opening.{IsOpening}
 use Rattle.win32_spec.specs.Ready.{is_ready}
 use Rattle.win32_spec.specs.Run.{PostedStep}
-use Rattle.win32_spec.specs.WellFormed.{IsWellFormed}
 use Rattle.posix_spec.specs.Opening.{opening_of}
 use Rattle.posix_spec.specs.State.{PosixState}
-use Rattle.layer_spec.specs.Decodes.{Decodes}
 use Rattle.layer_spec.specs.History.{given_of}
 use Rattle.layer_spec.specs.Moment.{Moment, Seen, HistoryStep, seen_with}
 use Rattle.layer_spec.specs.Turns.{is_live_process}
+use Rattle.world_spec.specs.Sound.{IsSoundMoment}
 use Rattle.world_spec.specs.SeenStep.{ShowsStep, IsSeenStep, IsBeside, turn_step}
-
--- The host lives, and its handles 1 and 3 are on the section and on the terminal. So neither ever goes.
-pub record IsHosted (s : Win32State) : Type 0 where
-  pub lives : is_live_process s 1 ≡ true
-  pub section : (words : List ℕ) × (object_by s 1 1 ≡ Some (Section words))
-  pub terminal : (x : Terminal) × (object_by s 1 3 ≡ Some (TerminalObject x))
-
--- A moment at which a turn is looked at, beside the clause of the thread whose turn it is.
-pub record IsSoundMoment {A : Type 0} (script : Script) (now : Moment A) : Type 0 where
-  pub formed : IsWellFormed script now.win32
-  pub hosted : IsHosted now.win32
-  pub decodes : Decodes script now.win32 now.posix
 
 module _ {P : Type 0} (posted_of : P → Call) (goes : P → Own → Setup → Reply → P → Own → After → Type 0)
     (script : Script) where
@@ -90,7 +75,7 @@ module _ {A P : Type 0} (posted_of : P → Call) (goes : P → Own → Setup →
         → is_live_process step.before.win32 w ≡ true → is_live_process step.after.win32 w ≡ true
         → clause step.past step.before w part → clause (seen_with step) step.after w part
     pub turns : (past : List (Seen A)) (now : Moment A) (slot t : ℕ) (part : P) (called : Call) (reply : Reply)
-        (given : Option Event) (next : Option P) (new : Win32State) → IsSoundMoment script now → thread_of_part part ≡ t
+        (given : Option Event) (next : Option P) (new : Win32State) → IsSoundMoment script past now → thread_of_part part ≡ t
         → (turn : OwnTurn posted_of goes script now.win32 slot t part called reply given next new)
         → clause past now turn.process.number part
         → KeepsTurn past now slot t turn.process.number called reply given next new

@@ -8,13 +8,13 @@ use Rattle.w32_base.specs.declared.event.Event.{Event}
 use Rattle.script_spec.specs.declared.script.Script.{Script}
 use Rattle.win32_spec.specs.Facts.{IsTurnOfThread}
 use Rattle.win32_spec.specs.Run.{DirectiveStep}
-use Rattle.win32_spec.specs.WellFormed.{IsWellFormed}
 use Rattle.posix_spec.specs.Run.{PosixStep}
 use Rattle.layer_spec.specs.Decodes.{Decodes}
 use Rattle.layer_spec.specs.Discipline.{KeepsDiscipline}
 use Rattle.layer_spec.specs.Evidence.{HasEvidence}
 use Rattle.layer_spec.specs.Moment.{Moment, Seen, HistoryStep}
 use Rattle.world_spec.specs.Facts.{KeepsFacts}
+use Rattle.world_spec.specs.Sound.{IsSoundMoment}
 
 -- What is to show of a step beside its Win32 step. Its event is a step of the POSIX machine, and without one that state
 -- stays. The entry keeps the discipline and has its evidence. After it rows and images show the POSIX state. It keeps the
@@ -27,11 +27,10 @@ pub record ShowsStep {A : Type 0} (script : Script) (step : HistoryStep A) : Typ
   pub decodes : Decodes script step.after.win32 step.after.posix
   pub facts : KeepsFacts step
 
--- What every thread sees of a step: from a well-formed state, which rows and images show, the entry is a step of the
--- Win32 machine, and all of the above. The parts of other threads aren't in it.
+-- What every thread sees of a step: from a sound moment, the entry is a step of the Win32 machine, and all of the above.
+-- The parts of other threads aren't in it.
 pub record IsSeenStep {A : Type 0} (script : Script) (step : HistoryStep A) : Type 0 where
-  pub formed : IsWellFormed script step.before.win32
-  pub decoded : Decodes script step.before.win32 step.before.posix
+  pub before : IsSoundMoment script step.past step.before
   pub win32 : DirectiveStep script step.before.win32 step.entry step.after.win32
   pub shows : ShowsStep script step
 

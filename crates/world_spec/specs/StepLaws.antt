@@ -33,15 +33,13 @@ use Rattle.win32_spec.specs.DrivenLaws.{driven_step}
 use Rattle.win32_spec.specs.ServedLaws.{process_in-is}
 use Rattle.win32_spec.specs.ServedSteps.{served-step}
 use Rattle.posix_spec.specs.State.{PosixState}
-use Rattle.layer_spec.specs.Decodes.{Decodes}
 use Rattle.layer_spec.specs.History.{given_of, driven_at}
-use Rattle.layer_spec.specs.HistoryLaws.{history_decodes}
 use Rattle.layer_spec.specs.Moment.{Moment, Seen, HistoryStep, seen_with}
 use Rattle.layer_spec.specs.Turns.{is_live_process}
 use Rattle.world_spec.specs.SeenStep.{ShowsStep, IsSeenStep, IsBeside}
 use Rattle.world_spec.specs.Owes.{OwesWorld, OwnTurn}
 use Rattle.world_spec.specs.World.{IsWorld, GoesOn}
-use Rattle.world_spec.specs.HostLaws.{hosted-step}
+use Rattle.world_spec.specs.SoundLaws.{sound-step}
 
 -- the first or the second case of a test
 pub match_true : (X Y : Type 0) (b : Bool) → b ≡ true → X → MatchBool b X Y
@@ -113,9 +111,6 @@ module _ {A : Type 0} (posted_of : A → Call) (goes : A → Own → Setup → R
     (owes : OwesWorld posted_of goes opening slot_of thread_of_part clause script)
     (past : List (Seen A)) (now : Moment A)
     (world : IsWorld posted_of goes opening slot_of thread_of_part clause script past now) where
-  pub decoded : Decodes script now.win32 now.posix
-  decoded = history_decodes posted_of goes opening slot_of thread_of_part script past now world.history
-
   module _ (d : Directive) (called : Option Call) (came : Outcome) (new : DrivenState A)
       (driven : DrivenBy posted_of goes opening slot_of thread_of_part script (driven_at now None) d called came new) where
     pub stepped : StepBy script now.win32 d called came new.win32
@@ -123,7 +118,7 @@ module _ {A : Type 0} (posted_of : A → Call) (goes : A → Own → Setup → R
         came new driven
 
     pub formed : IsWellFormed script new.win32
-    formed = wellformed-step script now.win32 d called came new.win32 registers world.formed stepped
+    formed = wellformed-step script now.win32 d called came new.win32 registers world.sound.formed stepped
 
     abbrev pub after_with : PosixState → Moment A
     after_with posix = record { win32 = new.win32; parts = new.parts; posix = posix }
@@ -146,12 +141,12 @@ module _ {A : Type 0} (posted_of : A → Call) (goes : A → Own → Setup → R
         by_test true f = absurd (
             let q = slot_found script new.win32 a v formed.formed e in
             let p = live_found (process_of now.win32.processes v) f in
-            let keeps = alive-step script now.win32 d called came new.win32 registers world.formed stepped v p.0 q.0 p.1 q.2
+            let keeps = alive-step script now.win32 d called came new.win32 registers world.sound.formed stepped v p.0 q.0 p.1 q.2
             q.3 in
             let is_in : process_in now.win32.processes a ≡ Some p.0 =
             ap (process_in now.win32.processes) (sym q.4 ∙ keeps.slot)
-            ∙ process_in-is script now.win32 v p.0 world.formed.formed p.1 p.2 in
-            let x = process_in-found 1 now.win32.next now.win32.processes a p.0 world.formed.formed.processes is_in in
+            ∙ process_in-is script now.win32 v p.0 world.sound.formed.formed p.1 p.2 in
+            let x = process_in-found 1 now.win32.next now.win32.processes a p.0 world.sound.formed.formed.processes is_in in
             let y = process_in-found 1 new.win32.next new.win32.processes a q.0 formed.formed.processes q.1 in
             let n : p.0.number ≡ v =
             sym keeps.number ∙ some_same q.0.number v (sym (ap number_of q.1) ∙ e) in
@@ -172,7 +167,7 @@ module _ {A : Type 0} (posted_of : A → Call) (goes : A → Own → Setup → R
 
     module _ (told : Option Event) (posix : PosixState) (shows : ShowsStep script (step_with told posix)) where
       seen : IsSeenStep script (step_with told posix)
-      seen = record { formed = world.formed; decoded = decoded; win32 = stepped; shows = shows }
+      seen = record { before = world.sound; win32 = stepped; shows = shows }
 
       -- A part that follows stands where its clause says: it was there before, or its process was made in this step.
       pub follows : (a b v : ℕ) (part : A)
@@ -184,7 +179,7 @@ module _ {A : Type 0} (posted_of : A → Call) (goes : A → Own → Setup → R
           by_bool (is_same_number (number_in now.win32 a) (number_in new.win32 a)) (λ as_before m.
           let n = same_number (number_in now.win32 a) (number_in new.win32 a) v e as_before in
           let there : part_at now.parts a b ≡ Some part = sym m ∙ here in
-          let p = slot_found script now.win32 a v world.formed.formed n in
+          let p = slot_found script now.win32 a v world.sound.formed.formed n in
           let q = slot_found script new.win32 a v formed.formed e in
           owes.keeps.outlasts (step_with told posix) seen v part
           (subst (IsBeside (step_with told posix) v) (sym (its_thread a b part there)) (beside n))
@@ -225,10 +220,9 @@ module _ {A : Type 0} (posted_of : A → Call) (goes : A → Own → Setup → R
               decodes = shows.decodes;
             },
           );
-          formed = formed;
-          hosted = hosted-step script (step_with told posix) registers seen world.hosted;
+          sound = sound-step script (step_with told posix) registers seen;
           served = served-step posted_of goes opening slot_of thread_of_part begins keeps_slot keeps_thread keeps_lengths
-              script registers (driven_at now None) world.formed world.served new d called came driven;
+              script registers (driven_at now None) world.sound.formed world.served new d called came driven;
           stands = stands;
         };
       }

@@ -22,7 +22,8 @@ use Rattle.win32_spec.specs.CallEffects.{by_bool}
 use Rattle.layer_spec.specs.Moment.{Moment, Seen}
 use Rattle.layer_spec.specs.Turns.{is_live_process}
 use Rattle.world_spec.specs.SeenStep.{ShowsStep, turn_step}
-use Rattle.world_spec.specs.Owes.{IsSoundMoment, LivesOn, OwnTurn}
+use Rattle.world_spec.specs.Sound.{IsSoundMoment}
+use Rattle.world_spec.specs.Owes.{LivesOn, OwnTurn}
 use Rattle.world_spec.specs.Calm.{IsCalm, is_plain_call}
 use Rattle.world_spec.specs.CalmLaws.{calm-shows}
 use Rattle.world_spec.specs.CalmSteps.{calm-then, calm-acts}
@@ -56,7 +57,7 @@ pub record KeepsShown (old new : Own) : Type 0 where
 
 module _ {A P : Type 0} (posted_of : P → Call) (goes : P → Own → Setup → Reply → P → Own → After → Type 0)
     (script : Script) (past : List (Seen A)) (now : Moment A) (slot t : ℕ) (part : P) (called : Call) (reply : Reply)
-    (given : Option Event) (next : Option P) (new : Win32State) (sound : IsSoundMoment script now)
+    (given : Option Event) (next : Option P) (new : Win32State) (sound : IsSoundMoment script past now)
     (turn : OwnTurn posted_of goes script now.win32 slot t part called reply given next new) where
   -- the process whose turn it is was alive
   pub own_lives : is_live_process now.win32 turn.process.number ≡ true

@@ -13,21 +13,19 @@ use Rattle.w32_base.specs.declared.setup.Setup.{Setup}
 use Rattle.script_spec.specs.declared.script.Script.{Script}
 use Rattle.win32_spec.specs.Driven.{part_at, DrivenState, AreServed}
 use Rattle.win32_spec.specs.Lookup.{number_in}
-use Rattle.win32_spec.specs.WellFormed.{IsWellFormed}
 use Rattle.posix_spec.specs.State.{PosixState}
 use Rattle.layer_spec.specs.History.{given_of, IsHistory}
 use Rattle.layer_spec.specs.Moment.{Moment, Seen}
-use Rattle.world_spec.specs.Owes.{IsHosted}
+use Rattle.world_spec.specs.Sound.{IsSoundMoment}
 
 module _ {A : Type 0} (posted_of : A → Call) (goes : A → Own → Setup → Reply → A → Own → After → Type 0)
     (opening : A → Type 0) (slot_of thread_of_part : A → ℕ)
     (clause : List (Seen A) → Moment A → ℕ → A → Type 0) where
-  -- What was seen is a history up to now, the state is well formed and has its host, each thread has posted the call of
-  -- its part, and each part stands where its clause says, of its own process.
+  -- What was seen is a history up to now, which is a sound moment. Each thread has posted the call of its part, and each
+  -- part stands where its clause says, of its own process.
   pub record IsWorld (script : Script) (past : List (Seen A)) (now : Moment A) : Type 0 where
     pub history : IsHistory posted_of goes opening slot_of thread_of_part script past now
-    pub formed : IsWellFormed script now.win32
-    pub hosted : IsHosted now.win32
+    pub sound : IsSoundMoment script past now
     pub served : AreServed posted_of goes opening slot_of thread_of_part now.win32 now.parts
     pub stands : (slot t w : ℕ) (part : A) → number_in now.win32 slot ≡ Some w → part_at now.parts slot t ≡ Some part
         → clause past now w part

@@ -42,7 +42,7 @@ use Rattle.world_spec.specs.Calm.{IsCalm, is_plain}
 use Rattle.world_spec.specs.CalmLaws.{calm-shows}
 use Rattle.world_spec.specs.CalmSteps.{calm-same, calm-key, calm-end, not_host}
 use Rattle.world_spec.specs.EndLaws.{process-end_stays}
-use Rattle.world_spec.specs.StepLaws.{match_true, match_false, stepped, formed, is_same, same_slot, stays_in, slot_found, some_same, decoded, follows}
+use Rattle.world_spec.specs.StepLaws.{match_true, match_false, stepped, formed, is_same, same_slot, stays_in, slot_found, some_same, follows}
 use Rattle.world_spec.specs.StepLaws.{goes_on, its_thread}
 
 module _ {A : Type 0} (posted_of : A → Call) (goes : A → Own → Setup → Reply → A → Own → After → Type 0)
@@ -87,8 +87,7 @@ module _ {A : Type 0} (posted_of : A → Call) (goes : A → Own → Setup → R
   still d called came new driven calm none quiet lives host follow beside =
       let shows : ShowsStep script (quiet_step d called came new) =
       calm-shows script (quiet_step d called came new) calm refl refl (ap is_plain none) lives (λ before. host)
-      (decoded posted_of goes opening slot_of thread_of_part clause begins keeps_slot keeps_thread keeps_lengths script
-      registers owes past now world) in
+      world.sound.decodes in
       goes_on posted_of goes opening slot_of thread_of_part clause begins keeps_slot keeps_thread keeps_lengths script
       registers owes past now world d called came new driven None now.posix shows (sym quiet)
       (λ a b v part e here. follows posted_of goes opening slot_of thread_of_part clause begins keeps_slot keeps_thread
@@ -113,7 +112,7 @@ module _ {A : Type 0} (posted_of : A → Call) (goes : A → Own → Setup → R
   idle_goes slot t called came new driven none idle same quiet parts =
       still (directive.Turn slot t) called came new driven (calm-same now.win32 new.win32 same) none quiet
       (λ no_end v live. ap (λ s. is_live_process s v) same ∙ live)
-      (ap (λ s. is_live_process s 1) same ∙ world.hosted.lives)
+      (ap (λ s. is_live_process s 1) same ∙ world.sound.hosted.lives)
       (same_follow new parts (λ a. ap (λ s. number_in s a) same))
       (λ v u. inr (record { called = none; came = idle; told = refl; win32 = same; posix = refl }))
 
@@ -123,7 +122,7 @@ module _ {A : Type 0} (posted_of : A → Call) (goes : A → Own → Setup → R
       still (directive.Key b) called came new driven
       (subst (IsCalm now.win32) (sym driven.2) (calm-key now.win32 b)) driven.0 driven.3
       (λ no_end v live. ap (λ s. is_live_process s v) driven.2 ∙ live)
-      (ap (λ s. is_live_process s 1) driven.2 ∙ world.hosted.lives)
+      (ap (λ s. is_live_process s 1) driven.2 ∙ world.sound.hosted.lives)
       (same_follow new driven.4 (λ a. ap (λ s. number_in s a) driven.2))
       (λ v t. inl (λ acts. acts))
 
@@ -139,15 +138,15 @@ module _ {A : Type 0} (posted_of : A → Call) (goes : A → Own → Setup → R
       by_answer None i m =
           still (directive.End slot) called came new driven (calm-same now.win32 new.win32 m.1) driven.0 driven.2
           (λ no_end v live. never v no_end live)
-          (ap (λ s. is_live_process s 1) m.1 ∙ world.hosted.lives) driven.3 (λ v t. inl (λ acts. acts))
+          (ap (λ s. is_live_process s 1) m.1 ∙ world.sound.hosted.lives) driven.3 (λ v t. inl (λ acts. acts))
       by_answer (Some p) i m =
-          let x = process_in-found 1 now.win32.next now.win32.processes slot p world.formed.formed.processes i in
-          let d = not_host script now.win32 world.formed p x.0 x.1 (subst (λ k. 1 ≤ k) (sym x.2) from) in
-          let h = live_found (process_of now.win32.processes 1) world.hosted.lives in
+          let x = process_in-found 1 now.win32.next now.win32.processes slot p world.sound.formed.formed.processes i in
+          let d = not_host script now.win32 world.sound.formed p x.0 x.1 (subst (λ k. 1 ≤ k) (sym x.2) from) in
+          let h = live_found (process_of now.win32.processes 1) world.sound.hosted.lives in
           let host = process-end_stays now.win32 p.number ended_from_outside 1 h.0 h.1 h.2 (λ e. d (sym e)) in
           still (directive.End slot) called came new driven
           (subst (IsCalm now.win32) (sym m.1)
-          (calm-end script now.win32 world.formed world.hosted p.number ended_from_outside d)) driven.0 driven.2
+          (calm-end script now.win32 world.sound.formed world.sound.hosted p.number ended_from_outside d)) driven.0 driven.2
           (λ no_end v live. never v no_end live)
           (ap (λ s. is_live_process s 1) m.1
           ∙ found_live (process_of (with_end now.win32 p.number ended_from_outside).processes 1) h.0 host h.2) driven.3
@@ -191,12 +190,7 @@ module _ {A : Type 0} (posted_of : A → Call) (goes : A → Own → Setup → R
         subst (λ k. KeepsTurn posted_of goes thread_of_part clause script past now slot t k call reply new.last next new.win32)
         same
         (owes.keeps.turns past now slot t of.part call reply new.last next new.win32
-        (record {
-          formed = world.formed;
-          hosted = world.hosted;
-          decodes = decoded posted_of goes opening slot_of thread_of_part clause begins keeps_slot keeps_thread
-              keeps_lengths script registers owes past now world;
-        })
+        world.sound
         (its_thread posted_of goes opening slot_of thread_of_part clause begins keeps_slot keeps_thread keeps_lengths
         script registers owes past now world (directive.Turn slot t) (Some call) (outcome.Step reply) new driven slot t
         of.part of.before) turn
@@ -245,7 +239,7 @@ module _ {A : Type 0} (posted_of : A → Call) (goes : A → Own → Setup → R
         beside : (a b v : ℕ) (part : A) → (a ≢ slot) ⊎ (b ≢ t) → number_in new.win32 a ≡ Some v
             → part_at new.parts a b ≡ Some part → StandsAfter kept.told kept.posix v part
         beside a b v part apart e there = follow a b v part (of.others a b apart) e there (λ n acts. elim apart [
-          | inl k ↦ k (same_slot script now.win32 a slot v world.formed.formed n acts.0)
+          | inl k ↦ k (same_slot script now.win32 a slot v world.sound.formed.formed n acts.0)
           | inr k ↦ k (sym acts.1)
         ])
 
@@ -313,7 +307,7 @@ module _ {A : Type 0} (posted_of : A → Call) (goes : A → Own → Setup → R
             } in
             let stays : number_in new.win32 slot ≡ Some w =
             stays_in script now.win32 (directive.Turn slot t) (Some call) (outcome.Step reply) new.win32 registers
-            world.formed after_formed
+            world.sound.formed after_formed
             (stepped posted_of goes opening slot_of thread_of_part clause begins keeps_slot keeps_thread
             keeps_lengths script registers owes past now world (directive.Turn slot t) (Some call) (outcome.Step reply)
             new driven) slot w number (lives_after live m.1.own (posted_of m.0) m.1.after) in
