@@ -16,3 +16,7 @@ pub mod WorldLaws
 pub mod TurnLaws
 pub mod Resting
 pub mod RestingLaws
+pub mod WorldOpening
+pub mod BesideLaws
+pub mod ClaimClause
+pub mod ClaimLaws

@@ -1,0 +1,125 @@
+-- A world begins wherever the machine opens with its parts: each thread's part was just opened, and its clause holds.
+use Rattle.std.proofs.Common.{◌≡◌, ◌≢◌, inl, inr, ℕ, zero, suc, ◌≤◌, ◌<◌, true, false, Option, Some, None, List, [], replicate}
+use Rattle.std.proofs.Common.{slice_index_or, refl, sym, ap, ◌∙◌, subst, arith}
+use Rattle.std.proofs.lemmas.Bool.{cases_eq}
+use Rattle.w32_base.specs.declared.call.Call.{Call}
+use Rattle.w32_base.specs.declared.call.Reply.{Reply}
+use Rattle.w32_base.specs.declared.own.Own.{Own}
+use Rattle.w32_base.specs.declared.part.After.{After}
+use Rattle.w32_base.specs.declared.setup.Setup.{Setup}
+use Rattle.script_spec.specs.declared.script.Script.{Script}
+use Rattle.script_spec.specs.Validity.{IsValid}
+use Rattle.tty_spec.specs.Terminal.{opening_terminal}
+use Rattle.win32_spec.specs.State.{Thread, Section, TerminalObject, Win32State}
+use Rattle.win32_spec.specs.Driven.{part_at, IsDrivenOpening, OpensPart, IsOpened}
+use Rattle.win32_spec.specs.Lookup.{number_in, object_number, thread_at}
+use Rattle.win32_spec.specs.LookupLaws.{same, differs, same_some}
+use Rattle.win32_spec.specs.Making.{opening_call}
+use Rattle.win32_spec.specs.Named.{object_by}
+use Rattle.win32_spec.specs.Opening.{OpeningNumbers, IsOpening, opening, opening_words}
+use Rattle.win32_spec.specs.OpeningLaws.{wellformed-opening}
+use Rattle.win32_spec.specs.ServedOpening.{served-opening}
+use Rattle.posix_spec.specs.Opening.{opening_of}
+use Rattle.layer_spec.specs.Decodes.{Decodes}
+use Rattle.layer_spec.specs.History.{driven_at}
+use Rattle.layer_spec.specs.Moment.{Moment, Seen}
+use Rattle.layer_spec.specs.OpeningHistory.{opening_is_history}
+use Rattle.layer_spec.specs.OpeningLaws.{zero_at, decodes_at_opening}
+use Rattle.layer_spec.specs.Rows.{main_place, group_place, exit_place}
+use Rattle.layer_spec.specs.Words.{main_at}
+use Rattle.roster.specs.Words.{is_live_word}
+use Rattle.world_spec.specs.Owes.{OwesWorld}
+use Rattle.world_spec.specs.Sound.{IsHosted, IsBlankRow, AreRowsSound}
+use Rattle.world_spec.specs.World.{IsWorld}
+
+-- the opening state has its host
+pub hosted-opening : (script : Script) (s : Win32State) → IsOpening script s → IsHosted s
+hosted-opening script s h = subst IsHosted (sym h.state) (by_numbers h.numbers)
+  where
+    by_numbers : (n : OpeningNumbers) → IsHosted (opening n h.program h.placed)
+    by_numbers n = record {
+      lives = refl;
+      section = (opening_words, rw (n.section_even, same n.section n.section refl) refl);
+      terminal = (
+        opening_terminal,
+        rw (n.terminal_even,
+        differs n.section n.terminal (λ e. omega (arith, n.mutex_above, n.terminal_above, e)),
+        differs n.mutex n.terminal (λ e. omega (arith, n.terminal_above, e)), same n.terminal n.terminal refl) refl,
+      );
+    }
+
+-- past its first three words the opening section has zeros
+later_word : (i : ℕ) → 3 ≤ i → slice_index_or opening_words i 0 ≡ 0
+unfolding opening_words
+later_word zero l = absurd (omega (arith, l))
+later_word (suc zero) l = absurd (omega (arith, l))
+later_word (suc (suc zero)) l = absurd (omega (arith, l))
+later_word (suc (suc (suc k))) l = zero_at 11998 k
+
+one_claimed : slice_index_or opening_words 0 0 ≡ 1
+unfolding opening_words
+one_claimed = refl
+
+-- at the opening one row is claimed, by nobody that was seen, and it alone is live
+pub rows-opening : {A : Type 0} → (script : Script) (s : Win32State) → IsOpening script s → AreRowsSound {A = A} [] s
+rows-opening script s h = subst (AreRowsSound []) (sym h.state) (record {
+  blank = λ row above. blank row (omega (arith, above, one_claimed));
+  within = λ row w claim. absurd claim;
+  once = λ row v w claim other. absurd claim;
+  apart = λ a b from_a from_b live_a live_b same.
+      let one_a = only_first a from_a live_a in
+      let one_b = only_first b from_b live_b in one_a ∙ sym one_b;
+})
+  where
+    first : Win32State
+    first = opening h.numbers h.program h.placed
+
+    blank : (row : ℕ) → 1 < row → IsBlankRow (opening h.numbers h.program h.placed) row
+    blank row above = record {
+      main = later_word (main_place row) (omega (arith, above));
+      group = later_word (group_place row) (omega (arith, above));
+      exit = later_word (exit_place row) (omega (arith, above));
+    }
+
+    only_first : (row : ℕ) → 1 ≤ row → is_live_word (main_at (opening h.numbers h.program h.placed) row) ≡ true → row ≡ 1
+    only_first row from live = elim (cases_eq row 1) [
+      | inl e ↦ e
+      | inr d ↦
+          let b = blank row (omega (arith, from, d)) in
+          let never : is_live_word 0 ≡ true = ap is_live_word (sym b.main) ∙ live in
+          absurd (let e : false ≡ true = never in cc)
+    ]
+
+module _ {A : Type 0} (posted_of : A → Call) (goes : A → Own → Setup → Reply → A → Own → After → Type 0)
+    (opening_part : A → Type 0) (slot_of thread_of_part : A → ℕ)
+    (clause : List (Seen A) → Moment A → ℕ → A → Type 0)
+    (begins : (p : A) → opening_part p → posted_of p ≡ opening_call)
+    (script : Script) (owes : OwesWorld posted_of goes opening_part slot_of thread_of_part clause script) where
+  pub world-opens : (now : Moment A) → IsValid script
+      → IsDrivenOpening posted_of goes opening_part slot_of thread_of_part script (driven_at now None)
+      → now.posix ≡ opening_of script
+      → IsWorld posted_of goes opening_part slot_of thread_of_part clause script [] now
+  world-opens now valid driven opened = record {
+    history = opening_is_history posted_of goes opening_part slot_of thread_of_part script now valid driven opened;
+    sound = record {
+      formed = wellformed-opening script now.win32 valid.few_modules driven.opens;
+      hosted = hosted-opening script now.win32 driven.opens;
+      decodes = subst (λ p. Decodes script now.win32 p) (sym opened) (decodes_at_opening script now.win32 valid driven.opens);
+      rows = rows-opening script now.win32 driven.opens;
+    };
+    served = served-opening posted_of goes opening_part slot_of thread_of_part begins script (driven_at now None) driven;
+    stands = stands;
+  }
+    where
+      stands : (slot t w : ℕ) (part : A) → number_in now.win32 slot ≡ Some w → part_at now.parts slot t ≡ Some part
+          → clause [] now w part
+      stands slot t w part number here = by_thread (thread_at now.win32 slot t) (driven.opened slot t)
+        where
+          by_thread : (o : Option Thread)
+              → OpensPart posted_of goes opening_part slot_of thread_of_part o slot t (part_at now.parts slot t)
+              → clause [] now w part
+          by_thread None m = absurd (let f : Some part ≡ None = sym here ∙ m in cc)
+          by_thread (Some x) m =
+              let g : m.0 ≡ part = same_some (part_at now.parts slot t) m.0 part m.1 here in
+              owes.begins now driven.opens opened slot t w part number
+              (subst (IsOpened posted_of goes opening_part slot_of thread_of_part slot t) g m.2)
