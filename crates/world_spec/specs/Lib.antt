@@ -20,3 +20,4 @@ pub mod WorldOpening
 pub mod BesideLaws
 pub mod ClaimClause
 pub mod ClaimLaws
+pub mod PieceLaws

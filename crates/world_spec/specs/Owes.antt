@@ -26,7 +26,8 @@ use Rattle.world_spec.specs.SeenStep.{ShowsStep, IsSeenStep, IsBeside, turn_step
 module _ {P : Type 0} (posted_of : P → Call) (goes : P → Own → Setup → Reply → P → Own → After → Type 0)
     (script : Script) where
   -- After its call, whose process lives on, a part goes on with the reply over the bytes of its own process, gives this
-  -- event, and posts its next call.
+  -- event, and its thread posts its next call. Which call that is, isn't said: where the part is done, it is that of the
+  -- part that comes next.
   pub record LivesOn (mid : Win32State) (w t : ℕ) (part : P) (reply : Reply) (given : Option Event) (next : Option P)
       (new : Win32State) : Type 0 where
     pub part_after : P
@@ -35,7 +36,8 @@ module _ {P : Type 0} (posted_of : P → Call) (goes : P → Own → Setup → R
     pub answer : After
     pub went : goes part (memory_by mid w) script.setup reply part_after own answer
     pub told : given ≡ answer.event
-    pub after : new ≡ with_posted (with_own mid w own) w t (posted_of part_after)
+    pub posts : Call
+    pub after : new ≡ with_posted (with_own mid w own) w t posts
 
   -- A turn of a part: its posted call is carried out with this reply. Where its process lives on, the part is `next`
   -- after it. Where the call ended the process, there is no part and no event.

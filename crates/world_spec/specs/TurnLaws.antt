@@ -84,10 +84,10 @@ module _ {A P : Type 0} (posted_of : P → Call) (goes : P → Own → Setup →
     quiet-turn keeps parts =
         let on = quiet-lives in
         let kept = keeps on.part_after on.own on.answer on.went in
-        let acts = calm-acts turn.mid turn.process.number t on.own (posted_of on.part_after) kept.image kept.cyg in
+        let acts = calm-acts turn.mid turn.process.number t on.own on.posts kept.image kept.cyg in
         let still : (v : ℕ) → is_live_process now.win32 v ≡ true → is_live_process new v ≡ true =
         λ v live. ap (λ n. is_live_process n v) on.after
-        ∙ live-acts turn.mid turn.process.number t on.own (posted_of on.part_after) v (lives v live) in
+        ∙ live-acts turn.mid turn.process.number t on.own on.posts v (lives v live) in
         calm-shows script
         (turn_step past now (record { win32 = new; parts = parts; posix = now.posix }) slot t called reply None)
         (calm-then now.win32 turn.mid new calm (subst (IsCalm turn.mid) (sym on.after) acts)) refl refl plain

@@ -302,6 +302,7 @@ module _ {A : Type 0} (posted_of : A → Call) (goes : A → Own → Setup → R
                 answer = m.1.answer;
                 went = m.1.went;
                 told = m.1.told;
+                posts = posted_of m.0;
                 after = m.1.after;
               });
             } in
