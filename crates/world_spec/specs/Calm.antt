@@ -20,12 +20,16 @@ pub record CalmProcess (p q : Process) : Type 0 where
   pub suspended : (t : ℕ) → suspended_by (thread_in q.threads t) ≡ suspended_by (thread_in p.threads t)
   pub handles : (h names : ℕ) → handle_of p.handles h ≡ Some names → handle_of q.handles h ≡ Some names
 
--- the state before and after: each process that is alive after it was alive before it
+-- each process that is alive after it was alive before it, and shows the same
+abbrev pub AreCalm : (s new : Win32State) → Type 0
+AreCalm s new = (v : ℕ) (q : Process) → process_of new.processes v ≡ Some q → is_alive q.life ≡ true
+    → (p : Process) × (process_of s.processes v ≡ Some p) × (is_alive p.life ≡ true) × CalmProcess p q
+
+-- the state before and after
 pub record IsCalm (s new : Win32State) : Type 0 where
   pub words : (i : ℕ) → word_in new i ≡ word_in s i
   pub terminal : terminal_in new.objects ≡ terminal_in s.objects
-  pub processes : (v : ℕ) (q : Process) → process_of new.processes v ≡ Some q → is_alive q.life ≡ true
-      → (p : Process) × (process_of s.processes v ≡ Some p) × (is_alive p.life ≡ true) × CalmProcess p q
+  pub processes : AreCalm s new
 
 -- A call that the discipline doesn't speak of, and that writes no other process's bytes; or none.
 abbrev pub is_plain_op : TtyOp → Bool

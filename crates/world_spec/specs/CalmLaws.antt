@@ -29,7 +29,7 @@ use Rattle.roster.specs.Words.{is_process_word, is_live_word}
 use Rattle.world_spec.specs.Facts.{KeepsWords, KeepsProcesses, RowStays, suspended_by}
 use Rattle.world_spec.specs.SeenStep.{ShowsStep}
 use Rattle.world_spec.specs.DecodesLaws.{decodes-stays}
-use Rattle.world_spec.specs.Calm.{IsCalm, CalmProcess, is_plain_call, is_plain}
+use Rattle.world_spec.specs.Calm.{AreCalm, IsCalm, CalmProcess, is_plain_call, is_plain}
 
 -- Where no word changes and no row is claimed, the facts of the words hold.
 pub words-kept : {A : Type 0} → (step : HistoryStep A) → ((i : ℕ) → word_in step.after.win32 i ≡ word_in step.before.win32 i)
@@ -77,14 +77,14 @@ is_no_claim None e f = absurd (let g : false ≡ true = f in cc)
 is_no_claim (Some (call.FetchAdd h i n)) e f = absurd (let g : false ≡ true = e in cc)
 is_no_claim (Some c) e f = absurd (let g : false ≡ true = f in cc)
 
-module _ {A : Type 0} (script : Script) (step : HistoryStep A) (calm : IsCalm step.before.win32 step.after.win32) where
+module _ {A : Type 0} (step : HistoryStep A) (calm : AreCalm step.before.win32 step.after.win32) where
   -- what is found of a process that is alive after it
   was : (v : ℕ) → is_live_process step.after.win32 v ≡ true
       → (q : Process) × (p : Process) × (process_of step.after.win32.processes v ≡ Some q)
       × (process_of step.before.win32.processes v ≡ Some p) × CalmProcess p q
   was v live =
       let q = live_found (process_of step.after.win32.processes v) live in
-      let p = calm.processes v q.0 q.1 q.2 in (q.0, p.0, q.1, p.1, p.3)
+      let p = calm v q.0 q.1 q.2 in (q.0, p.0, q.1, p.1, p.3)
 
   image_kept : (v : ℕ) → is_live_process step.after.win32 v ≡ true
       → KeepsImage (memory_by step.before.win32 v) (memory_by step.after.win32 v)
@@ -100,11 +100,13 @@ module _ {A : Type 0} (script : Script) (step : HistoryStep A) (calm : IsCalm st
       ap (λ o. handle_of (handles_of o) h) at.2
       ∙ at.4.handles h names (ap (λ o. handle_of (handles_of o) h) (sym at.3) ∙ named)
 
-  processes_kept : is_plain step.entry.call ≡ true → KeepsProcesses step
-  processes_kept plain = record {
+  -- So the facts of processes hold, whatever becomes of the words, where the call writes no other process's bytes.
+  pub processes-kept : ((v : ℕ) → IsWrittenTo step.before.win32 step.entry.directive step.entry.call v → ⊥)
+      → KeepsProcesses step
+  processes-kept unwritten = record {
     low_handles = λ v h names few named live. still_named v h names named live;
     own_handles = λ v h names named live other. still_named v h names named live;
-    writes = λ v written. absurd (plain_written step.before.win32 step.entry.directive step.entry.call v plain written);
+    writes = λ v written. absurd (unwritten v written);
     unnamed = λ v is acts live. image_kept v live;
     helpers = λ v t acts other live. image_kept v live;
     suspends = λ v t before live.
@@ -113,6 +115,7 @@ module _ {A : Type 0} (script : Script) (step : HistoryStep A) (calm : IsCalm st
         ∙ (at.4.suspended t ∙ sym (ap (λ o. suspended_by (thread_of o t)) at.3)));
   }
 
+module _ {A : Type 0} (script : Script) (step : HistoryStep A) (calm : IsCalm step.before.win32 step.after.win32) where
   -- All that is to show of such a step. Only an `end` may end a process in it, and nothing ends the host.
   pub calm-shows : step.entry.event ≡ None → step.after.posix ≡ step.before.posix → is_plain step.entry.call ≡ true
       → (is_end step.entry.directive ≡ false → (v : ℕ) → is_live_process step.before.win32 v ≡ true
@@ -144,5 +147,10 @@ module _ {A : Type 0} (script : Script) (step : HistoryStep A) (calm : IsCalm st
             (at.1, at.2, record { image = at.3.image; cyg = at.3.cyg; placed = at.3.placed }),
           );
         }) decoded);
-    facts = record { words = words-kept step calm.words plain; processes = processes_kept plain; host = host };
+    facts = record {
+      words = words-kept step calm.words plain;
+      processes = processes-kept step calm.processes
+        (λ v written. plain_written step.before.win32 step.entry.directive step.entry.call v plain written);
+      host = host;
+    };
   }

@@ -17,6 +17,7 @@ pub mod TurnLaws
 pub mod Resting
 pub mod RestingLaws
 pub mod WorldOpening
+pub mod MainLaws
 pub mod BesideLaws
 pub mod ClaimClause
 pub mod ClaimLaws
