@@ -37,7 +37,6 @@ is_plain_op tty.Key = false
 is_plain_op _ = true
 
 abbrev pub is_plain_call : Call → Bool
-is_plain_call (call.CompareExchange h i old new) = false
 is_plain_call (call.FetchAdd h i n) = false
 is_plain_call (call.Create program_no list) = false
 is_plain_call (call.WriteMemory h region place own_region own_place count) = false

@@ -1,6 +1,7 @@
 -- The clause of a claim of `roster`: what the main thread of a running process knows of the row that it claims, from its
 -- first step to the row held. It is the first piece of the clause of a fork.
 use Rattle.std.specs.Prelude.{◌≡◌, ℕ, ◌≤◌, true, List, Some}
+use Rattle.script_spec.specs.declared.script.Script.{Script}
 use Rattle.win32_spec.specs.State.{Win32State}
 use Rattle.layer_spec.specs.Decoding.{main_of}
 use Rattle.layer_spec.specs.Moment.{Moment, Seen}
@@ -13,8 +14,10 @@ use Rattle.roster.specs.Words.{changed_word}
 use Rattle.world_spec.specs.Made.{IsClaimedBy}
 use Rattle.world_spec.specs.Sound.{IsBlankRow}
 
--- process w claimed the row, which is blank yet
-pub record HasClaimed {A : Type 0} (past : List (Seen A)) (s : Win32State) (w row : ℕ) : Type 0 where
+-- process w claimed the row, one of the script's, which is blank yet
+pub record HasClaimed {A : Type 0} (script : Script) (past : List (Seen A)) (s : Win32State) (w row : ℕ) : Type 0 where
+  pub from : 1 ≤ row
+  pub within : row ≤ script.setup.limits.rows
   pub claimed : IsClaimedBy past row w
   pub blank : IsBlankRow s row
 
@@ -26,11 +29,11 @@ pub record HoldsRow {A : Type 0} (past : List (Seen A)) (s : Win32State) (w row 
   pub exit : exit_at s row ≡ 0
 
 -- Before the add it needs nothing of the rows. After it the row is claimed and blank, until it is held.
-abbrev pub ClaimClause : {A : Type 0} → List (Seen A) → Moment A → ℕ → Claim → Type 0
-ClaimClause past now w claim.Adding = Unit {0}
-ClaimClause past now w (claim.Looking row) = HasClaimed past now.win32 w row
-ClaimClause past now w (claim.Holding row old new) =
-    HasClaimed past now.win32 w row × (old ≡ 0) × (changed_word Hold old ≡ Some new)
-ClaimClause past now w (claim.Claimed row) = HoldsRow past now.win32 w row
-ClaimClause past now w claim.NoRow = Unit {0}
-ClaimClause past now w claim.Rest = Unit {0}
+abbrev pub ClaimClause : {A : Type 0} → Script → List (Seen A) → Moment A → ℕ → Claim → Type 0
+ClaimClause script past now w claim.Adding = Unit {0}
+ClaimClause script past now w (claim.Looking row) = HasClaimed script past now.win32 w row
+ClaimClause script past now w (claim.Holding row old new) =
+    HasClaimed script past now.win32 w row × (changed_word Hold old ≡ Some new)
+ClaimClause script past now w (claim.Claimed row) = HoldsRow past now.win32 w row
+ClaimClause script past now w claim.NoRow = Unit {0}
+ClaimClause script past now w claim.Rest = Unit {0}

@@ -14,12 +14,14 @@ use Rattle.world_spec.specs.SeenStep.{IsSeenStep, IsBeside}
 module _ {A : Type 0} (script : Script) (step : HistoryStep A) (seen : IsSeenStep script step) (w : ℕ)
     (beside : IsBeside step w 0) where
   -- a blank row that was claimed stays blank
-  has_claimed : (row : ℕ) → HasClaimed step.past step.before.win32 w row
-      → HasClaimed (seen_with step) step.after.win32 w row
+  has_claimed : (row : ℕ) → HasClaimed script step.past step.before.win32 w row
+      → HasClaimed script (seen_with step) step.after.win32 w row
   has_claimed row h =
       let stays = claim-stays script step seen w row beside h.claimed
       (ap (λ x. is_open_main (main_of x)) h.blank.main) in
       record {
+        from = h.from;
+        within = h.within;
         claimed = inr h.claimed;
         blank = record {
           main = stays.main ∙ h.blank.main;
@@ -39,11 +41,11 @@ module _ {A : Type 0} (script : Script) (step : HistoryStep A) (seen : IsSeenSte
         exit = stays.exit ∙ h.exit;
       }
 
-  pub claim-outlasts : (p : Claim) → ClaimClause step.past step.before w p
-      → ClaimClause (seen_with step) step.after w p
+  pub claim-outlasts : (p : Claim) → ClaimClause script step.past step.before w p
+      → ClaimClause script (seen_with step) step.after w p
   claim-outlasts claim.Adding h = tt
   claim-outlasts (claim.Looking row) h = has_claimed row h
-  claim-outlasts (claim.Holding row old new) h = (has_claimed row h.0, h.1, h.2)
+  claim-outlasts (claim.Holding row old new) h = (has_claimed row h.0, h.1)
   claim-outlasts (claim.Claimed row) h = holds_row row h
   claim-outlasts claim.NoRow h = tt
   claim-outlasts claim.Rest h = tt

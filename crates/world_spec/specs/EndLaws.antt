@@ -21,14 +21,14 @@ use Rattle.win32_spec.specs.ObjectLaws.{rising_objects-bound}
 use Rattle.world_spec.specs.Sound.{IsHosted}
 
 -- an object that is found behind the first one is found with it in front
-found-later : (low : ℕ) (x : NumberedObject) (xs : List NumberedObject) → AreRisingObjects low (x ∷ xs) → (o : ℕ)
+pub found-later : (low : ℕ) (x : NumberedObject) (xs : List NumberedObject) → AreRisingObjects low (x ∷ xs) → (o : ℕ)
     (y : Object) → object_of xs o ≡ Some y → object_of (x ∷ xs) o ≡ Some y
 found-later low x xs r o y e =
     let bound = rising_objects-bound (x.number + 1) xs o y r.2 e in
     let d = differs x.number o (λ n. omega (arith, bound.0, n)) in rw d e
 
 -- the first one is found
-found-first : (x : NumberedObject) (xs : List NumberedObject) → object_of (x ∷ xs) x.number ≡ Some x.object
+pub found-first : (x : NumberedObject) (xs : List NumberedObject) → object_of (x ∷ xs) x.number ≡ Some x.object
 found-first x xs = let s = same x.number x.number refl in rw s refl
 
 -- Where each section is held, what is left of the objects has the same words.

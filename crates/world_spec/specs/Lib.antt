@@ -17,8 +17,11 @@ pub mod TurnLaws
 pub mod Resting
 pub mod RestingLaws
 pub mod WorldOpening
+pub mod SectionLaws
 pub mod MainLaws
 pub mod BesideLaws
 pub mod ClaimClause
 pub mod ClaimLaws
 pub mod PieceLaws
+pub mod ExchangeLaws
+pub mod HoldLaws
