@@ -28,7 +28,7 @@ use Rattle.layer_spec.specs.Words.{word_in, main_at}
 use Rattle.roster.specs.Words.{is_process_word, is_live_word}
 use Rattle.world_spec.specs.Facts.{KeepsWords, KeepsProcesses, RowStays, suspended_by}
 use Rattle.world_spec.specs.SeenStep.{ShowsStep}
-use Rattle.world_spec.specs.DecodesLaws.{decodes-stays}
+use Rattle.world_spec.specs.DecodesLaws.{AreShownTheSame, decodes-stays}
 use Rattle.world_spec.specs.Calm.{AreCalm, IsCalm, CalmProcess, is_plain_call, is_plain}
 
 -- Where no word changes and no row is claimed, the facts of the words hold.
@@ -76,6 +76,12 @@ is_no_claim : (c : Option Call) → is_plain c ≡ true → is_claim c ≡ true 
 is_no_claim None e f = absurd (let g : false ≡ true = f in cc)
 is_no_claim (Some (call.FetchAdd h i n)) e f = absurd (let g : false ≡ true = e in cc)
 is_no_claim (Some c) e f = absurd (let g : false ≡ true = f in cc)
+
+-- what is calm shows the same
+pub calm_shown : (s new : Win32State) → AreCalm s new → AreShownTheSame s new
+calm_shown s new calm v q f alive =
+    let at = calm v q f alive in
+    (at.0, (at.1, at.2, record { image = at.3.image; cyg = at.3.cyg; placed = at.3.placed }))
 
 module _ {A : Type 0} (step : HistoryStep A) (calm : AreCalm step.before.win32 step.after.win32) where
   -- what is found of a process that is alive after it
@@ -139,14 +145,8 @@ module _ {A : Type 0} (script : Script) (step : HistoryStep A) (calm : IsCalm st
     };
     evidence = subst (λ o. MatchOption o (Unit {0}) (λ e. HasEvidence script step e)) (sym told) tt;
     decodes = subst (λ p. Decodes script step.after.win32 p) (sym posix)
-        (decodes-stays script step.before.win32 step.after.win32 step.before.posix (record {
-          words = calm.words;
-          terminal = calm.terminal;
-          processes = λ v q f alive. let at = calm.processes v q f alive in (
-            at.0,
-            (at.1, at.2, record { image = at.3.image; cyg = at.3.cyg; placed = at.3.placed }),
-          );
-        }) decoded);
+        (decodes-stays script step.before.win32 step.after.win32 step.before.posix
+        (calm_shown step.before.win32 step.after.win32 calm.processes) calm.words calm.terminal decoded);
     facts = record {
       words = words-kept step calm.words plain;
       processes = processes-kept step calm.processes

@@ -24,12 +24,10 @@ pub record ShowsTheSame (p q : Process) : Type 0 where
 abbrev pub WasTheSame : Win32State → Process → Process → ℕ → Type 0
 WasTheSame s p q v = (process_of s.processes v ≡ Some p) × (is_alive p.life ≡ true) × ShowsTheSame p q
 
--- The words of the section, the terminal and the images of live processes are as before.
-pub record ShownStays (s new : Win32State) : Type 0 where
-  pub words : (i : ℕ) → word_in new i ≡ word_in s i
-  pub terminal : terminal_in new.objects ≡ terminal_in s.objects
-  pub processes : (v : ℕ) (q : Process) → process_of new.processes v ≡ Some q → is_alive q.life ≡ true
-      → (p : Process) × WasTheSame s p q v
+-- each process that is alive after a step was there and shows the same
+abbrev pub AreShownTheSame : Win32State → Win32State → Type 0
+AreShownTheSame s new = (v : ℕ) (q : Process) → process_of new.processes v ≡ Some q → is_alive q.life ≡ true
+    → (p : Process) × WasTheSame s p q v
 
 same_image : (p q : Own) → KeepsImage p q → image_of q ≡ image_of p
 same_image p q k =
@@ -54,29 +52,31 @@ holds_on script o q p n r k h =
       once = h.once;
     })
 
-module _ (script : Script) (s new : Win32State) (p : PosixState) (stays : ShownStays s new) where
-  record_stays : (row : ℕ) (main : MainWord) (r : Record) → ShowsRecord script (λ q. q.own) s p row main r
-      → ShowsRecord script (λ q. q.own) new p row main r
-  record_stays row main r h = record {
+module _ (script : Script) (s new : Win32State) (p : PosixState) (stays : AreShownTheSame s new) where
+  record_stays : (row : ℕ) (main : MainWord) (r : Record) → group_at new row ≡ group_at s row
+      → ShowsRecord script (λ q. q.own) s p row main r → ShowsRecord script (λ q. q.own) new p row main r
+  record_stays row main r same h = record {
     life = h.life;
     report = h.report;
     execd = h.execd;
     pending = h.pending;
     group_word = h.group_word;
-    group_decodes = ap group_of (stays.words (group_place row)) ∙ h.group_decodes;
+    group_decodes = ap group_of same ∙ h.group_decodes;
     parent = h.parent;
     group = h.group;
     session = h.session;
     terminal = h.terminal;
     held = λ live q e alive.
-        let was = stays.processes main.image q e alive in
+        let was = stays main.image q e alive in
         holds_on script was.0 q p (row + 1) r was.1.2 (h.held live was.0 was.1.0 was.1.1);
   }
 
-  row_stays : (row : ℕ) → ShowsRow script (λ q. q.own) s p row → ShowsRow script (λ q. q.own) new p row
-  row_stays row h = record {
+  -- a row whose main word and group word stay
+  pub row-stays : (row : ℕ) → main_at new row ≡ main_at s row → group_at new row ≡ group_at s row
+      → ShowsRow script (λ q. q.own) s p row → ShowsRow script (λ q. q.own) new p row
+  row-stays row main group h = record {
     main = h.main;
-    decodes = ap main_of (stays.words (main_place row)) ∙ h.decodes;
+    decodes = ap main_of main ∙ h.decodes;
     shown = by_record (record_of p (row + 1)) h.shown;
   }
     where
@@ -84,11 +84,16 @@ module _ (script : Script) (s new : Win32State) (p : PosixState) (stays : ShownS
           → MatchOption o (is_process_kind h.main.kind ≡ false) (λ r. ShowsRecord script (λ q. q.own) s p row h.main r)
           → MatchOption o (is_process_kind h.main.kind ≡ false) (λ r. ShowsRecord script (λ q. q.own) new p row h.main r)
       by_record None m = m
-      by_record (Some r) m = record_stays row h.main r m
+      by_record (Some r) m = record_stays row h.main r group m
 
-  pub decodes-stays : Decodes script s p → Decodes script new p
-  decodes-stays h = record {
-    numbers = h.numbers;
-    rows = λ row from. row_stays row (h.rows row from);
-    terminal = stays.terminal ∙ h.terminal;
-  }
+  -- where each row goes on to show its process, and the terminal stays, all goes on
+  pub decodes-rows : terminal_in new.objects ≡ terminal_in s.objects
+      → ((row : ℕ) → 1 ≤ row → ShowsRow script (λ q. q.own) new p row) → Decodes script s p → Decodes script new p
+  decodes-rows terminal rows h = record { numbers = h.numbers; rows = rows; terminal = terminal ∙ h.terminal }
+
+  -- so it does where no word changes
+  pub decodes-stays : ((i : ℕ) → word_in new i ≡ word_in s i) → terminal_in new.objects ≡ terminal_in s.objects
+      → Decodes script s p → Decodes script new p
+  decodes-stays words terminal h =
+      decodes-rows terminal
+      (λ row from. row-stays row (words (main_place row)) (words (group_place row)) (h.rows row from)) h

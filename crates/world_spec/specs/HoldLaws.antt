@@ -13,13 +13,6 @@ use Rattle.layer_spec.specs.Rows.{MainWord, Free, Held, is_process_kind}
 use Rattle.layer_spec.specs.Transitions.{blank}
 use Rattle.layer_spec.specs.Words.{main_at}
 
--- a row that shows no process
-pub record ShowsNone (s : Win32State) (p : PosixState) (row : ℕ) : Type 0 where
-  pub main : MainWord
-  pub decodes : main_of (main_at s row) ≡ Some main
-  pub kind : is_process_kind main.kind ≡ false
-  pub absent : record_of p (row + 1) ≡ None
-
 -- a blank row has no record
 pub blank_absent : (script : Script) (s : Win32State) (p : PosixState) (row : ℕ) → main_at s row ≡ 0
     → ShowsRow script (λ q. q.own) s p row → record_of p (row + 1) ≡ None

@@ -25,3 +25,4 @@ pub mod ClaimLaws
 pub mod PieceLaws
 pub mod ExchangeLaws
 pub mod HoldLaws
+pub mod ClaimTurns
