@@ -50,7 +50,7 @@ ClaimGoes p old setup reply q new answer = Went (quietly (claim_after setup p re
 abbrev pub claim_thread : Claim → ℕ
 claim_thread p = 0
 
-same_bytes : (p q : Claim) (old new : Own) (setup : Setup) (reply : Reply) (answer : After)
+pub same_bytes : (p q : Claim) (old new : Own) (setup : Setup) (reply : Reply) (answer : After)
     → ClaimGoes p old setup reply q new answer → KeepsShown old new
 same_bytes p q old new setup reply answer went = record {
   image = record {
@@ -62,7 +62,7 @@ same_bytes p q old new setup reply answer went = record {
 }
 
 -- After a look at a row that was claimed, it tries to hold it with the word that it found.
-looks_on : {A : Type 0} → (script : Script) (past : List (Seen A)) (now : Moment A) (w row x : ℕ)
+pub looks_on : {A : Type 0} → (script : Script) (past : List (Seen A)) (now : Moment A) (w row x : ℕ)
     → HasClaimed script past now.win32 w row → ClaimClause script past now w (claim_looked row x)
 looks_on script past now w row x h = by_held (changed_word Hold x) refl
   where
@@ -70,7 +70,7 @@ looks_on script past now w row x h = by_held (changed_word Hold x) refl
     by_held None e = tt
     by_held (Some new) e = (h, e)
 
-by_reply : {A : Type 0} → (script : Script) (past : List (Seen A)) (now : Moment A) (w : ℕ) (f : ℕ → Claim) (r : Reply)
+pub by_reply : {A : Type 0} → (script : Script) (past : List (Seen A)) (now : Moment A) (w : ℕ) (f : ℕ → Claim) (r : Reply)
     → ((x : ℕ) → r ≡ reply.Word x → ClaimClause script past now w (f x))
     → ClaimClause script past now w (by_word claim.Rest f r)
 by_reply script past now w f (reply.Word x) h = h x refl
@@ -79,7 +79,7 @@ by_reply script past now w f r h = tt
 module _ {A : Type 0} (script : Script) (past : List (Seen A)) (now : Moment A) (slot row : ℕ) (called : Call) (reply : Reply)
     (given : Option Event) (next : Option Claim) (new : Win32State) (sound : IsSoundMoment script past now) where
   -- a calm turn of a claim from a row that it has claimed
-  quiet : (part : Claim)
+  pub quiet : (part : Claim)
       → (turn : OwnTurn claim_posted ClaimGoes script now.win32 slot 0 part called reply given next new)
       → HasClaimed script past now.win32 turn.process.number row
       → IsCalm now.win32 turn.mid

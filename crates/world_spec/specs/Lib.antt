@@ -26,3 +26,4 @@ pub mod PieceLaws
 pub mod ExchangeLaws
 pub mod HoldLaws
 pub mod ClaimTurns
+pub mod ClaimHolds
