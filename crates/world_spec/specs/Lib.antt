@@ -27,3 +27,4 @@ pub mod ExchangeLaws
 pub mod HoldLaws
 pub mod ClaimTurns
 pub mod ClaimHolds
+pub mod RestingWorld
