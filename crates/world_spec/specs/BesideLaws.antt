@@ -1,17 +1,12 @@
 -- What a clause is built of outlasts each step beside it: the lemmas by which a part shows that its own does.
-use Rattle.std.proofs.Common.{◌≡◌, ◌⊎◌, inl, inr, ℕ, ◌≤◌, true, List, Option, Some, refl, sym, ap, ◌∙◌, subst}
-use Rattle.w32_base.specs.declared.entry.Directive.{Directive}
-use Rattle.w32_base.specs.declared.entry.Directive.TheVariants as directive
-use Rattle.w32_base.specs.declared.own.Own.{Own}
+use Rattle.std.proofs.Common.{◌≡◌, ◌⊎◌, inl, inr, ℕ, ◌≤◌, true, Some, refl, sym, ap, ◌∙◌, subst}
 use Rattle.script_spec.specs.declared.script.Script.{Script}
-use Rattle.win32_spec.specs.Facts.{IsTurnOf, IsTurnOfThread, IsWrittenTo}
+use Rattle.win32_spec.specs.Facts.{IsTurnOf}
 use Rattle.win32_spec.specs.FormedLaws.{live_found}
-use Rattle.win32_spec.specs.Handles.{handle_of}
-use Rattle.win32_spec.specs.Lookup.{process_of, memory_of, memory_by, number_in}
+use Rattle.win32_spec.specs.Lookup.{process_of, memory_of, memory_by}
 use Rattle.win32_spec.specs.MemoryEffects.{HaveRegisters}
-use Rattle.win32_spec.specs.Named.{handles_of, named_by}
+use Rattle.win32_spec.specs.Named.{named_by}
 use Rattle.win32_spec.specs.StableFacts.{bytes-stay}
-use Rattle.win32_spec.specs.State.{Win32State}
 use Rattle.layer_spec.specs.Decoding.{main_of}
 use Rattle.layer_spec.specs.Moment.{HistoryStep, seen_with, SomeSeen, Seen}
 use Rattle.layer_spec.specs.Turns.{is_live_process}

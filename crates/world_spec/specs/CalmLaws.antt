@@ -1,30 +1,27 @@
 -- A step without an event that makes a calm change by a plain call, or by none, shows all that is to show.
-use Rattle.std.proofs.Common.{◌≡◌, ◌≢◌, inl, inr, ℕ, ◌≤◌, Bool, true, false, ◌∷◌, List, Option, Some, None, MatchOption}
-use Rattle.std.proofs.Common.{refl, sym, ap, ◌∙◌, subst, arith}
+use Rattle.std.proofs.Common.{◌≡◌, inl, inr, ℕ, true, false, Option, Some, None, MatchOption}
+use Rattle.std.proofs.Common.{sym, ap, ◌∙◌, subst, arith}
 use Rattle.w32_base.specs.Part.{KeepsImage}
 use Rattle.w32_base.specs.declared.call.Call.{Call}
 use Rattle.w32_base.specs.declared.call.Call.TheVariants as call
-use Rattle.w32_base.specs.declared.call.TtyOp.{TtyOp}
-use Rattle.w32_base.specs.declared.call.TtyOp.TheVariants as tty
 use Rattle.w32_base.specs.declared.entry.Directive.{Directive}
-use Rattle.w32_base.specs.declared.event.Event.{Event}
 use Rattle.script_spec.specs.declared.script.Script.{Script}
 use Rattle.win32_spec.specs.Handles.{handle_of}
 use Rattle.win32_spec.specs.Effects.{IsWriteTo}
-use Rattle.win32_spec.specs.Facts.{IsTurnOf, IsWrittenTo}
+use Rattle.win32_spec.specs.Facts.{IsWrittenTo}
 use Rattle.win32_spec.specs.State.{Process, Win32State}
-use Rattle.win32_spec.specs.Lookup.{is_alive, process_of, is_live, thread_of, memory_of, memory_by}
+use Rattle.win32_spec.specs.Lookup.{process_of, thread_of, memory_of, memory_by}
 use Rattle.win32_spec.specs.Named.{handles_of, named_by}
 use Rattle.win32_spec.specs.FormedLaws.{live_found}
 use Rattle.posix_spec.specs.Run.{PosixStep}
 use Rattle.layer_spec.specs.Decodes.{Decodes}
 use Rattle.layer_spec.specs.Decoding.{main_image}
-use Rattle.layer_spec.specs.Discipline.{KeepsDiscipline, is_create, is_claim, is_exchange, is_end}
+use Rattle.layer_spec.specs.Discipline.{is_create, is_claim, is_end}
 use Rattle.layer_spec.specs.Evidence.{HasEvidence}
 use Rattle.layer_spec.specs.Moment.{HistoryStep}
 use Rattle.layer_spec.specs.Rows.{main_place, group_place, exit_place}
 use Rattle.layer_spec.specs.Turns.{is_live_process}
-use Rattle.layer_spec.specs.Words.{word_in, main_at}
+use Rattle.layer_spec.specs.Words.{word_in}
 use Rattle.roster.specs.Words.{is_process_word, is_live_word}
 use Rattle.world_spec.specs.Facts.{KeepsWords, KeepsProcesses, RowStays, suspended_by}
 use Rattle.world_spec.specs.SeenStep.{ShowsStep}
@@ -150,7 +147,7 @@ module _ {A : Type 0} (script : Script) (step : HistoryStep A) (calm : IsCalm st
     facts = record {
       words = words-kept step calm.words plain;
       processes = processes-kept step calm.processes
-        (λ v written. plain_written step.before.win32 step.entry.directive step.entry.call v plain written);
+          (λ v written. plain_written step.before.win32 step.entry.directive step.entry.call v plain written);
       host = host;
     };
   }

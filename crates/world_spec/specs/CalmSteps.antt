@@ -1,22 +1,21 @@
 -- Calm changes: nothing at all, a key, the end of a process that isn't the host, and what a thread does after its call
 -- that leaves image and cygheap of its process alone.
-use Rattle.std.proofs.Common.{◌≡◌, ◌≢◌, inl, inr, ℕ, ◌≤◌, Bool, true, false, nat_eq, if◌then◌else◌, List, [], ◌∷◌, Option, Some, None, MatchOption, refl, sym, ap}
+use Rattle.std.proofs.Common.{◌≡◌, ◌≢◌, inl, inr, ℕ, ◌≤◌, Bool, true, false, nat_eq, if◌then◌else◌, List, [], ◌∷◌}
+use Rattle.std.proofs.Common.{Option, Some, None, MatchOption, refl, sym, ap}
 use Rattle.std.proofs.Common.{◌∙◌, subst, arith}
-use Rattle.std.proofs.lemmas.Bool.{cases_eq}
 use Rattle.w32_base.specs.Part.{KeepsImage}
 use Rattle.w32_base.specs.declared.call.Call.{Call}
 use Rattle.w32_base.specs.declared.own.Own.{Own}
 use Rattle.script_spec.specs.declared.script.Script.{Script}
 use Rattle.win32_spec.specs.State.{Thread, Process, Win32State}
-use Rattle.win32_spec.specs.Lookup.{is_alive, process_of, thread_in, change_process, change_thread, memory_of, memory_by}
+use Rattle.win32_spec.specs.Lookup.{is_alive, process_of, thread_in, change_process, change_thread, memory_of}
+use Rattle.win32_spec.specs.Lookup.{memory_by}
 use Rattle.win32_spec.specs.Lookup.{with_own, with_posted, word_in}
 use Rattle.win32_spec.specs.Ends.{with_end}
-use Rattle.win32_spec.specs.Handles.{handle_of}
 use Rattle.win32_spec.specs.Run.{with_key}
 use Rattle.win32_spec.specs.WellFormed.{IsHost, IsLayerProcess, IsWellFormed}
 use Rattle.win32_spec.specs.FormedLaws.{of_live}
 use Rattle.win32_spec.specs.LookupLaws.{changed_process}
-use Rattle.win32_spec.specs.PostedLaws.{thread_in-other}
 use Rattle.world_spec.specs.Facts.{suspended_by}
 use Rattle.world_spec.specs.Sound.{IsHosted}
 use Rattle.world_spec.specs.Calm.{CalmProcess, IsCalm}
@@ -134,8 +133,7 @@ calm-acts mid w t own next image cyg = record {
               let is : q ≡ record p
               { own = own; threads = change_thread t (λ y. record y { posted = next }) p.threads } =
               this.3 ∙ ap (λ (x : Process). record x
-              { threads = change_thread t (λ y. record y { posted = next }) x.threads }) that.3 in
-              (
+              { threads = change_thread t (λ y. record y { posted = next }) x.threads }) that.3 in (
                 p,
                 ap (process_of mid.processes) this.0 ∙ that.2,
                 ap (λ (x : Process). is_alive x.life) (sym is) ∙ alive,

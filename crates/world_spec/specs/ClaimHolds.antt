@@ -1,6 +1,6 @@
 -- The compare-exchange by which a claimed row becomes held gives what it owes: where it found the old word the row is
 -- held, and else the claim tries again with the word that it found.
-use Rattle.std.proofs.Common.{◌≡◌, ◌≢◌, ◌⊎◌, inl, inr, ℕ, ◌+◌, ◌*◌, ◌<◌, ◌≤◌, Bool, true, false, nat_eq, if◌then◌else◌, List, Option}
+use Rattle.std.proofs.Common.{◌≡◌, ◌≢◌, inl, inr, ℕ, ◌<◌, ◌≤◌, Bool, true, false, nat_eq, if◌then◌else◌, List, Option}
 use Rattle.std.proofs.Common.{Some, None, MatchOption, refl, sym, ap, ◌∙◌, subst, arith}
 use Rattle.std.proofs.lemmas.Bool.{cases_eq, eqb-true}
 use Rattle.w32_base.specs.declared.call.Call.{Call}
@@ -13,19 +13,18 @@ use Rattle.win32_spec.specs.Call.{CallStep}
 use Rattle.win32_spec.specs.CallEffects.{by_bool}
 use Rattle.win32_spec.specs.Driven.{Parts}
 use Rattle.win32_spec.specs.Effects.{IsWriteTo}
-use Rattle.win32_spec.specs.Facts.{IsTurnOfThread}
-use Rattle.win32_spec.specs.Lookup.{process_of, is_live, memory_by, number_of, number_in, terminal_in}
+use Rattle.win32_spec.specs.Lookup.{process_of, is_live, memory_by, number_of}
 use Rattle.win32_spec.specs.LookupLaws.{same}
-use Rattle.win32_spec.specs.State.{Process, Win32State}
-use Rattle.layer_spec.specs.Decodes.{Decodes, ShowsRow}
+use Rattle.win32_spec.specs.State.{Win32State}
+use Rattle.layer_spec.specs.Decodes.{ShowsRow}
 use Rattle.layer_spec.specs.Decoding.{main_of}
-use Rattle.layer_spec.specs.Discipline.{KeepsDiscipline, is_create, is_claim, is_module}
+use Rattle.layer_spec.specs.Discipline.{is_create, is_claim, is_module}
 use Rattle.layer_spec.specs.Moment.{Moment, Seen, HistoryStep, seen_with}
 use Rattle.layer_spec.specs.Rows.{Held, main_word_of, main_place, group_place, exit_place}
 use Rattle.layer_spec.specs.Transitions.{Hold, blank}
 use Rattle.layer_spec.specs.Turns.{is_live_process}
-use Rattle.layer_spec.specs.Words.{word_in, main_at, group_at}
-use Rattle.roster.specs.Claim.{claim_posted, claim_looked, claim_tried, claim_after}
+use Rattle.layer_spec.specs.Words.{word_in, main_at}
+use Rattle.roster.specs.Claim.{claim_posted, claim_looked, claim_tried}
 use Rattle.roster.specs.declared.claim.Claim.{Claim}
 use Rattle.roster.specs.declared.claim.Claim.TheVariants as claim
 use Rattle.roster.specs.RosterChanges.{ChangesMain}
@@ -37,7 +36,7 @@ use Rattle.world_spec.specs.CalmSteps.{calm-acts, calm_process}
 use Rattle.world_spec.specs.ClaimClause.{HasClaimed, HoldsRow, ClaimClause}
 use Rattle.world_spec.specs.ClaimTurns.{ClaimGoes, claim_thread, same_bytes, looks_on, by_reply, quiet}
 use Rattle.world_spec.specs.DecodesLaws.{decodes-rows, row-stays}
-use Rattle.world_spec.specs.ExchangeLaws.{KeepsRest, Exchanges, FindsOther, exchange-cases}
+use Rattle.world_spec.specs.ExchangeLaws.{Exchanges, FindsOther, exchange-cases}
 use Rattle.world_spec.specs.HoldLaws.{blank_absent, held_shows}
 use Rattle.world_spec.specs.MainLaws.{MayChangeMain, main-kept}
 use Rattle.world_spec.specs.Owes.{LivesOn, OwnTurn, KeepsTurn}

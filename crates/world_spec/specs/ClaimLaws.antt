@@ -1,9 +1,8 @@
 -- The clause of a claim outlasts each step beside it.
-use Rattle.std.proofs.Common.{◌≡◌, inl, inr, ℕ, true, Option, Some, refl, sym, ap, ◌∙◌, subst}
+use Rattle.std.proofs.Common.{inr, ℕ, ap, ◌∙◌}
 use Rattle.script_spec.specs.declared.script.Script.{Script}
 use Rattle.layer_spec.specs.Decoding.{main_of}
 use Rattle.layer_spec.specs.Moment.{HistoryStep, seen_with}
-use Rattle.layer_spec.specs.Words.{main_at}
 use Rattle.roster.specs.declared.claim.Claim.{Claim}
 use Rattle.roster.specs.declared.claim.Claim.TheVariants as claim
 use Rattle.world_spec.specs.BesideLaws.{claim-stays}

@@ -1,7 +1,6 @@
 -- A claim's turns: the look at the row, and the compare-exchange by which it becomes held, give what they owe.
-use Rattle.std.proofs.Common.{◌≡◌, ◌≢◌, ◌⊎◌, inl, inr, ℕ, ◌+◌, ◌*◌, ◌<◌, ◌≤◌, Bool, true, false, nat_eq, if◌then◌else◌, List, Option}
-use Rattle.std.proofs.Common.{Some, None, MatchOption, refl, sym, ap, ◌∙◌, subst, arith}
-use Rattle.std.proofs.lemmas.Bool.{cases_eq, eqb-true}
+use Rattle.std.proofs.Common.{◌≡◌, inr, ℕ, true, List, Option}
+use Rattle.std.proofs.Common.{Some, None, MatchOption, refl, sym, ap, ◌∙◌, subst}
 use Rattle.w32_base.specs.declared.call.Call.{Call}
 use Rattle.w32_base.specs.declared.call.Call.TheVariants as call
 use Rattle.w32_base.specs.declared.call.Reply.{Reply}
@@ -12,34 +11,23 @@ use Rattle.w32_base.specs.declared.part.After.{After}
 use Rattle.w32_base.specs.declared.setup.Setup.{Setup}
 use Rattle.script_spec.specs.declared.script.Script.{Script}
 use Rattle.win32_spec.specs.Call.{CallStep}
-use Rattle.win32_spec.specs.Driven.{Parts}
-use Rattle.win32_spec.specs.Facts.{IsTurnOfThread}
-use Rattle.win32_spec.specs.Lookup.{process_of, is_alive, memory_by, with_own, with_posted, number_of}
-use Rattle.win32_spec.specs.State.{Process, Win32State}
-use Rattle.layer_spec.specs.Decodes.{Decodes}
-use Rattle.layer_spec.specs.Decoding.{main_of}
-use Rattle.layer_spec.specs.Discipline.{KeepsDiscipline}
-use Rattle.layer_spec.specs.Moment.{Moment, Seen, HistoryStep, seen_with}
-use Rattle.layer_spec.specs.Rows.{Held, main_place, group_place, exit_place}
-use Rattle.layer_spec.specs.Transitions.{Hold, blank}
+use Rattle.win32_spec.specs.Lookup.{memory_by}
+use Rattle.win32_spec.specs.State.{Win32State}
+use Rattle.layer_spec.specs.Moment.{Moment, Seen, seen_with}
+use Rattle.layer_spec.specs.Rows.{main_place, group_place, exit_place}
+use Rattle.layer_spec.specs.Transitions.{Hold}
 use Rattle.layer_spec.specs.Turns.{is_live_process}
-use Rattle.layer_spec.specs.Words.{word_in, main_at}
-use Rattle.roster.specs.Claim.{claim_posted, claim_held, claim_looked, claim_tried, claim_after}
+use Rattle.layer_spec.specs.Words.{word_in}
+use Rattle.roster.specs.Claim.{claim_posted, claim_held, claim_looked, claim_after}
 use Rattle.roster.specs.declared.claim.Claim.{Claim}
 use Rattle.roster.specs.declared.claim.Claim.TheVariants as claim
 use Rattle.roster.specs.Turns.{Went, quietly, by_word}
-use Rattle.roster.specs.Words.{changed_word, is_live_word}
-use Rattle.world_spec.specs.BesideLaws.{claim-stays}
-use Rattle.world_spec.specs.Calm.{IsCalm, AreCalm, is_plain_call}
-use Rattle.world_spec.specs.CalmLaws.{processes-kept, calm_shown}
-use Rattle.world_spec.specs.CalmSteps.{calm-same, calm-acts, calm-then, calm_process}
-use Rattle.world_spec.specs.ClaimClause.{HasClaimed, HoldsRow, ClaimClause}
-use Rattle.world_spec.specs.DecodesLaws.{decodes-rows, row-stays}
-use Rattle.world_spec.specs.ExchangeLaws.{Exchanges, FindsOther, exchange-cases}
-use Rattle.world_spec.specs.HoldLaws.{blank_absent, held_shows}
-use Rattle.world_spec.specs.MainLaws.{MayChangeMain, main-kept}
-use Rattle.world_spec.specs.Owes.{LivesOn, OwnTurn, KeepsTurn}
-use Rattle.world_spec.specs.SeenStep.{ShowsStep, turn_step}
+use Rattle.roster.specs.Words.{changed_word}
+use Rattle.world_spec.specs.Calm.{IsCalm, is_plain_call}
+use Rattle.world_spec.specs.CalmSteps.{calm-same}
+use Rattle.world_spec.specs.ClaimClause.{HasClaimed, ClaimClause}
+use Rattle.world_spec.specs.Owes.{OwnTurn, KeepsTurn}
+use Rattle.world_spec.specs.SeenStep.{turn_step}
 use Rattle.world_spec.specs.Sound.{IsSoundMoment}
 use Rattle.world_spec.specs.TurnLaws.{KeepsShown, quiet-lives, quiet-turn}
 

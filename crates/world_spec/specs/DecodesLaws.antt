@@ -1,16 +1,16 @@
 -- Rows and images go on to show the POSIX state where the words of the section, the terminal, and what the live processes
 -- show of themselves stay.
-use Rattle.std.proofs.Common.{◌≡◌, ℕ, ◌+◌, ◌≤◌, true, false, Option, Some, None, MatchOption, IsSome, refl, sym, ap, ◌∙◌}
+use Rattle.std.proofs.Common.{◌≡◌, ℕ, ◌+◌, ◌≤◌, true, false, Option, Some, None, MatchOption, sym, ap, ◌∙◌}
 use Rattle.std.proofs.Common.{subst}
 use Rattle.w32_base.specs.Part.{KeepsImage}
 use Rattle.w32_base.specs.declared.own.Own.{Own}
 use Rattle.script_spec.specs.declared.script.Script.{Script}
 use Rattle.vm_spec.specs.Image.{Image, image_of}
-use Rattle.win32_spec.specs.State.{PlacedModule, Process, Win32State}
+use Rattle.win32_spec.specs.State.{Process, Win32State}
 use Rattle.win32_spec.specs.Lookup.{is_alive, process_of, terminal_in}
 use Rattle.posix_spec.specs.State.{Record, PosixState, record_of}
 use Rattle.layer_spec.specs.Decodes.{Decodes, HoldsRecord, ShowsRecord, ShowsRow}
-use Rattle.layer_spec.specs.Rows.{MainWord, main_place, group_place, is_process_kind, is_live_kind}
+use Rattle.layer_spec.specs.Rows.{MainWord, main_place, group_place, is_process_kind}
 use Rattle.layer_spec.specs.Decoding.{main_of, group_of}
 use Rattle.layer_spec.specs.Words.{word_in, main_at, group_at}
 

@@ -6,14 +6,15 @@ use Rattle.script_spec.specs.declared.script.Script.{Script}
 use Rattle.tty_spec.specs.Terminal.{Terminal}
 use Rattle.win32_spec.specs.State.{Object, Section, Event, Mutex, Pipe, ProcessObject, TerminalObject, NumberedObject}
 use Rattle.win32_spec.specs.State.{Process, Win32State}
-use Rattle.win32_spec.specs.Lookup.{is_alive, process_of, is_live, object_number, object_of, change_process, words_or}
+use Rattle.win32_spec.specs.Lookup.{is_alive, process_of, object_number, object_of, change_process, words_or}
 use Rattle.win32_spec.specs.Lookup.{section_words, terminal_or, terminal_in}
-use Rattle.win32_spec.specs.Ends.{is_object_held, held_objects, objects_left_by, object_left_by, ended_process, with_end}
+use Rattle.win32_spec.specs.Ends.{is_object_held, held_objects, objects_left_by, object_left_by, ended_process}
+use Rattle.win32_spec.specs.Ends.{with_end}
 use Rattle.win32_spec.specs.Ends.{is_process_held}
 use Rattle.win32_spec.specs.Handles.{handle_of}
 use Rattle.win32_spec.specs.Named.{object_by, object_at, named_by, handles_of}
 use Rattle.win32_spec.specs.WellFormed.{AreRisingObjects, IsWellFormed, only_number}
-use Rattle.win32_spec.specs.LookupLaws.{or_left, same, differs, same_some, process_of-change_other, changed_process}
+use Rattle.win32_spec.specs.LookupLaws.{or_left, same, differs, process_of-change_other, changed_process}
 use Rattle.win32_spec.specs.LookupLaws.{rising-change_process}
 use Rattle.win32_spec.specs.HeldLaws.{is-held, kept_process, kept_process-stays}
 use Rattle.win32_spec.specs.FormedLaws.{live_found}

@@ -4,8 +4,8 @@
 -- proved in `StableFacts`, `StepFacts` and `PostedLaws` of `win32_spec`.
 use Rattle.std.specs.Prelude.{◌≡◌, ◌≢◌, ◌⊎◌, ℕ, ◌+◌, ◌<◌, ◌≤◌, Bool, true, false, Option, Some, None}
 use Rattle.w32_base.specs.Part.{KeepsImage}
-use Rattle.win32_spec.specs.State.{Thread, Process, Win32State}
-use Rattle.win32_spec.specs.Lookup.{process_of, is_live, thread_of, memory_by}
+use Rattle.win32_spec.specs.State.{Thread, Win32State}
+use Rattle.win32_spec.specs.Lookup.{process_of, thread_of, memory_by}
 use Rattle.win32_spec.specs.Named.{named_by}
 use Rattle.win32_spec.specs.Facts.{IsTurnOf, IsTurnOfThread, IsWrittenTo}
 use Rattle.layer_spec.specs.Rows.{ExitWord, MainWord, RowKind, Free, Held, Running, Stopped, Zombie, Gone}

@@ -1,15 +1,13 @@
 -- A claimed row that becomes held: rows and images go on to show the POSIX state, since neither a free nor a held row is a
 -- process.
-use Rattle.std.proofs.Common.{◌≡◌, ◌≢◌, ℕ, ◌+◌, ◌≤◌, Bool, true, false, Option, Some, None, MatchOption, refl, sym, ap, ◌∙◌}
-use Rattle.std.proofs.Common.{subst, inl, inr}
-use Rattle.std.proofs.lemmas.Bool.{cases_eq}
+use Rattle.std.proofs.Common.{◌≡◌, ℕ, ◌+◌, false, Option, Some, None, MatchOption, refl, sym, ap, ◌∙◌}
+use Rattle.std.proofs.Common.{subst}
 use Rattle.script_spec.specs.declared.script.Script.{Script}
 use Rattle.win32_spec.specs.State.{Win32State}
-use Rattle.posix_spec.specs.State as posix
 use Rattle.posix_spec.specs.State.{Record, PosixState, record_of}
-use Rattle.layer_spec.specs.Decodes.{Decodes, ShowsRecord, ShowsRow, life_of}
+use Rattle.layer_spec.specs.Decodes.{ShowsRecord, ShowsRow, life_of}
 use Rattle.layer_spec.specs.Decoding.{main_of}
-use Rattle.layer_spec.specs.Rows.{MainWord, Free, Held, is_process_kind}
+use Rattle.layer_spec.specs.Rows.{Free, Held, is_process_kind}
 use Rattle.layer_spec.specs.Transitions.{blank}
 use Rattle.layer_spec.specs.Words.{main_at}
 

@@ -1,15 +1,13 @@
 -- The host stays, with the section and the terminal.
-use Rattle.std.proofs.Common.{◌≡◌, ◌⊎◌, inl, inr, ℕ, ◌≤◌, true, List, Option, Some, None, refl, sym, ap, ◌∙◌, subst, arith}
+use Rattle.std.proofs.Common.{◌≡◌, inl, inr, ℕ, ◌≤◌, true, List, Some, refl, sym, ap, ◌∙◌, arith}
 use Rattle.script_spec.specs.declared.script.Script.{Script}
 use Rattle.tty_spec.specs.Terminal.{Terminal}
-use Rattle.win32_spec.specs.State.{Object, Section, Event, Mutex, Pipe, ProcessObject, TerminalObject, Win32State}
-use Rattle.win32_spec.specs.Lookup.{process_of, object_number, object_of}
-use Rattle.win32_spec.specs.Ends.{object_left_by}
+use Rattle.win32_spec.specs.State.{Object, Section, Event, Mutex, Pipe, ProcessObject, TerminalObject}
+use Rattle.win32_spec.specs.Lookup.{process_of, object_number}
 use Rattle.win32_spec.specs.Facts.{IsExchange, ObjectAfter}
 use Rattle.win32_spec.specs.Handles.{handle_of}
 use Rattle.win32_spec.specs.MemoryEffects.{HaveRegisters}
-use Rattle.win32_spec.specs.Named.{handles_of, named_by, object_by, object_at}
-use Rattle.win32_spec.specs.Opening.{IsOpening}
+use Rattle.win32_spec.specs.Named.{handles_of, object_by, object_at}
 use Rattle.win32_spec.specs.StableFacts.{object-step}
 use Rattle.win32_spec.specs.StepLaws.{wellformed-step}
 use Rattle.win32_spec.specs.Tame.{HoldsNext}
@@ -64,8 +62,7 @@ module _ {A : Type 0} (script : Script) (step : HistoryStep A) (registers : Have
       let q = live_found (process_of step.after.win32.processes 1) host_lives in
       let live = of_live script step.after.win32.objects q.0 q.0.life q.2 (after_formed.formed.process 1 q.0 q.1) in
       let listed = from_listed step.after.win32.objects at.0
-      (live.naming k at.0 (sym (ap (λ o. handle_of (handles_of o) k) q.1) ∙ named)) in
-      (
+      (live.naming k at.0 (sym (ap (λ o. handle_of (handles_of o) k) q.1) ∙ named)) in (
         listed.0,
         ap (object_at step.after.win32) named ∙ listed.1,
         object-step script step.before.win32 step.entry.directive step.entry.call step.entry.outcome step.after.win32

@@ -12,6 +12,7 @@ pub mod HostLaws
 pub mod SoundLaws
 pub mod StepLaws
 pub mod CalmSteps
+pub mod StillLaws
 pub mod WorldLaws
 pub mod TurnLaws
 pub mod Resting

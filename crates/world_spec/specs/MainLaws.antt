@@ -1,10 +1,9 @@
 -- A step that changes one main word, and leaves the roster as it is: the facts of the words hold where the change is the
 -- acting thread's to make.
-use Rattle.std.proofs.Common.{◌≡◌, ◌≢◌, ◌⊎◌, inl, inr, ℕ, zero, suc, ◌<◌, ◌≤◌, Bool, true, false, List, Option, Some, None, refl, sym, ap}
+use Rattle.std.proofs.Common.{◌≡◌, ◌≢◌, ◌⊎◌, inl, inr, ℕ, zero, suc, ◌≤◌, Bool, true, false, refl, sym, ap}
 use Rattle.std.proofs.Common.{◌∙◌, subst, arith}
 use Rattle.std.proofs.lemmas.Bool.{cases_eq}
 use Rattle.win32_spec.specs.Facts.{IsTurnOfThread}
-use Rattle.win32_spec.specs.State.{Win32State}
 use Rattle.layer_spec.specs.Decoding.{main_of, main_image}
 use Rattle.layer_spec.specs.Discipline.{is_claim}
 use Rattle.layer_spec.specs.Moment.{HistoryStep}
@@ -14,7 +13,7 @@ use Rattle.layer_spec.specs.Turns.{is_live_process}
 use Rattle.layer_spec.specs.Words.{claimed_in, main_at}
 use Rattle.roster.specs.RosterChanges.{changes_roster, ChangesMain}
 use Rattle.roster.specs.RosterChangesLaws.{KeepsWord, changed_word_keeps, change-stays}
-use Rattle.roster.specs.Words.{is_live_word, is_process_word}
+use Rattle.roster.specs.Words.{is_live_word}
 use Rattle.world_spec.specs.Facts.{ChangesByTable, KeepsWords, Names, RowStays, is_open_main}
 use Rattle.world_spec.specs.Made.{IsClaimedBy}
 

@@ -1,6 +1,6 @@
 -- A part that runs another part as a piece: its turns give what they owe by what the piece's turns give. So the sum of
 -- the parts of a thread owes nothing that its parts don't give.
-use Rattle.std.proofs.Common.{◌≡◌, ℕ, Bool, true, false, List, ◌∷◌, Option, Some, None, MatchBool, MatchOption, refl, sym, ap}
+use Rattle.std.proofs.Common.{◌≡◌, ℕ, true, false, List, ◌∷◌, Option, Some, None, MatchOption, refl, sym}
 use Rattle.std.proofs.Common.{◌∙◌, subst}
 use Rattle.w32_base.specs.declared.call.Call.{Call}
 use Rattle.w32_base.specs.declared.call.Reply.{Reply}

@@ -1,6 +1,6 @@
 -- The part of a thread that has nothing to do: it looks at the number of claimed rows, as every thread does first, and
 -- then rests for ever, in a wait that is never ready. It is the simplest part that serves a thread for its whole life.
-use Rattle.std.specs.Prelude.{◌≡◌, ℕ, Bool, true, false, if◌then◌else◌, List, [], Option, None}
+use Rattle.std.specs.Prelude.{◌≡◌, ℕ, Bool, true, false, if◌then◌else◌, List, [], None}
 use Rattle.w32_base.specs.declared.call.Call.{Call}
 use Rattle.w32_base.specs.declared.call.Call.TheVariants as call
 use Rattle.w32_base.specs.declared.call.Reply.{Reply}

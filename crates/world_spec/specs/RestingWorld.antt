@@ -1,6 +1,6 @@
 -- A world whose threads all rest: it begins for every valid script, and every directive leads from it to one. So what the
 -- parts owe can be given, and the law of a directive isn't empty.
-use Rattle.std.proofs.Common.{◌≡◌, ℕ, true, false, List, [], Option, None, refl, sym, ap, ◌∙◌, subst, if◌then◌else◌}
+use Rattle.std.proofs.Common.{◌≡◌, ℕ, List, [], Option, None, refl, sym, ap, subst, if◌then◌else◌}
 use Rattle.w32_base.specs.Part.{KeepsLengths}
 use Rattle.w32_base.specs.declared.call.Call.{Call}
 use Rattle.w32_base.specs.declared.call.Call.TheVariants as call

@@ -1,15 +1,16 @@
 -- The words of the section, by whatever handle: there is one section, so a handle on a section is on that one.
-use Rattle.std.proofs.Common.{◌≡◌, ◌≢◌, inl, inr, ℕ, ◌+◌, ◌<◌, Bool, true, false, nat_eq, nat_lt, if◌then◌else◌, List, [], ◌∷◌}
-use Rattle.std.proofs.Common.{Option, Some, None, slice_index, slice_index_or, slice_set, length, refl, sym, ap, ◌∙◌, subst}
+use Rattle.std.proofs.Common.{◌≡◌, ◌≢◌, inl, inr, ℕ, ◌+◌, List, [], ◌∷◌}
+use Rattle.std.proofs.Common.{Option, Some, None, slice_index_or, refl, sym, ap, ◌∙◌}
 use Rattle.std.proofs.Common.{arith}
 use Rattle.std.proofs.lemmas.Bool.{cases_eq}
 use Rattle.script_spec.specs.declared.script.Script.{Script}
 use Rattle.tty_spec.specs.Terminal.{Terminal}
 use Rattle.win32_spec.specs.State.{Object, Section, Event, Mutex, Pipe, ProcessObject, TerminalObject, NumberedObject}
 use Rattle.win32_spec.specs.State.{Win32State}
-use Rattle.win32_spec.specs.Lookup.{object_number, object_of, change_object, words_or, section_words, terminal_or, terminal_in}
+use Rattle.win32_spec.specs.Lookup.{object_number, object_of, change_object, words_or, section_words, terminal_or}
+use Rattle.win32_spec.specs.Lookup.{terminal_in}
 use Rattle.win32_spec.specs.LookupLaws.{same, differs}
-use Rattle.win32_spec.specs.Named.{section_named, object_by, object_at, named_by, object_number_by, number_or_zero}
+use Rattle.win32_spec.specs.Named.{section_named, object_at, named_by, object_number_by, number_or_zero}
 use Rattle.win32_spec.specs.ObjectLaws.{rising_objects-bound}
 use Rattle.win32_spec.specs.WellFormed.{AreRisingObjects, IsWellFormed}
 use Rattle.win32_spec.specs.WordCalls.{words_by, with_words}

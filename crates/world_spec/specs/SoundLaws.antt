@@ -1,6 +1,6 @@
 -- What holds for everybody at a moment holds after each step that keeps the facts.
-use Rattle.std.proofs.Common.{◌≡◌, ◌≢◌, ◌⊎◌, inl, inr, ℕ, ◌+◌, ◌<◌, ◌≤◌, Bool, true, false, ◌&&◌, List, ◌∷◌, Option, Some}
-use Rattle.std.proofs.Common.{None, nat_eq, refl, sym, ap, ◌∙◌, subst, arith}
+use Rattle.std.proofs.Common.{◌≡◌, ◌≢◌, ◌⊎◌, inl, inr, ℕ, ◌<◌, ◌≤◌, Bool, true, false, Option, Some}
+use Rattle.std.proofs.Common.{None, nat_eq, refl, sym, ap, ◌∙◌, arith}
 use Rattle.std.proofs.lemmas.Bool.{cases_eq, eqb-true}
 use Rattle.w32_base.specs.declared.entry.Directive.{Directive}
 use Rattle.w32_base.specs.declared.entry.Directive.TheVariants as directive
@@ -11,11 +11,12 @@ use Rattle.win32_spec.specs.MemoryEffects.{HaveRegisters}
 use Rattle.win32_spec.specs.State.{Process, Win32State}
 use Rattle.layer_spec.specs.Decoding.{main_image, main_of}
 use Rattle.layer_spec.specs.Moment.{HistoryStep, seen_with}
-use Rattle.layer_spec.specs.Rows.{MainWord, RowKind, Free, Held, Running, Stopped, Zombie, Gone, is_process_kind, is_live_kind}
+use Rattle.layer_spec.specs.Rows.{MainWord, RowKind, Free, Held, Running, Stopped, Zombie, Gone, is_process_kind}
+use Rattle.layer_spec.specs.Rows.{is_live_kind}
 use Rattle.layer_spec.specs.Turns.{is_process, is_thread_turn}
 use Rattle.layer_spec.specs.Words.{claimed_in, main_at}
 use Rattle.roster.specs.Words.{is_live_word, is_process_word, is_live_main, is_process_main}
-use Rattle.world_spec.specs.Made.{IsClaimedBy, IsNamed}
+use Rattle.world_spec.specs.Made.{IsClaimedBy}
 use Rattle.world_spec.specs.Facts.{Names}
 use Rattle.world_spec.specs.Sound.{AreRowsSound, IsSoundMoment}
 use Rattle.world_spec.specs.SeenStep.{IsSeenStep}

@@ -1,29 +1,25 @@
 -- The composition: if each part gives what it owes, then every directive leads from a world to a world.
-use Rattle.std.proofs.Common.{◌≡◌, ◌≢◌, ◌⊎◌, inl, inr, ℕ, ◌≤◌, Bool, true, false, nat_eq, List, ◌∷◌, Option, Some, None}
-use Rattle.std.proofs.Common.{MatchBool, MatchOption, refl, sym, ap, ◌∙◌, subst, arith}
-use Rattle.std.proofs.lemmas.Bool.{cases_eq, eqb-true}
+use Rattle.std.proofs.Common.{◌≡◌, ℕ, Bool, true, false, nat_eq, List, Option, Some, None}
+use Rattle.std.proofs.Common.{MatchBool, MatchOption, refl, sym, ap, ◌∙◌, subst}
+use Rattle.std.proofs.lemmas.Bool.{eqb-true}
 use Rattle.w32_base.specs.Part.{KeepsLengths}
 use Rattle.w32_base.specs.declared.call.Call.{Call}
 use Rattle.w32_base.specs.declared.call.Reply.{Reply}
 use Rattle.w32_base.specs.declared.entry.Directive.{Directive}
-use Rattle.w32_base.specs.declared.entry.Directive.TheVariants as directive
 use Rattle.w32_base.specs.declared.entry.Outcome.{Outcome}
-use Rattle.w32_base.specs.declared.entry.Outcome.TheVariants as outcome
 use Rattle.w32_base.specs.declared.event.Event.{Event}
 use Rattle.w32_base.specs.declared.own.Own.{Own}
 use Rattle.w32_base.specs.declared.part.After.{After}
 use Rattle.w32_base.specs.declared.setup.Setup.{Setup}
 use Rattle.script_spec.specs.declared.script.Script.{Script}
 use Rattle.win32_spec.specs.State.{Thread, Process, Win32State}
-use Rattle.win32_spec.specs.Lookup.{is_alive, process_of, is_live, process_in, thread_of, thread_at, number_of, number_in}
-use Rattle.win32_spec.specs.Lookup.{memory_by, change_process, change_thread}
-use Rattle.win32_spec.specs.Driven.{Parts, part_at, DrivenState, is_same_number, IsOpened, Serves, OpensPart, PartFollows}
-use Rattle.win32_spec.specs.Driven.{PartGoes, DrivenTurn, DrivenBy}
+use Rattle.win32_spec.specs.Lookup.{is_alive, process_of, process_in, thread_at, number_of, number_in}
+use Rattle.win32_spec.specs.Driven.{part_at, DrivenState, is_same_number, IsOpened, Serves, OpensPart, PartFollows}
+use Rattle.win32_spec.specs.Driven.{DrivenBy}
 use Rattle.win32_spec.specs.Making.{opening_call}
-use Rattle.win32_spec.specs.Ready.{is_ready}
-use Rattle.win32_spec.specs.Run.{StepBy, EndStep, ended_from_outside, with_key}
+use Rattle.win32_spec.specs.Run.{StepBy}
 use Rattle.win32_spec.specs.WellFormed.{IsFormed, IsWellFormed}
-use Rattle.win32_spec.specs.LookupLaws.{same, same_some, process_of-change_same, process_in-found}
+use Rattle.win32_spec.specs.LookupLaws.{same, same_some, process_in-found}
 use Rattle.win32_spec.specs.FormedLaws.{live_found, found_live}
 use Rattle.win32_spec.specs.CallEffects.{by_bool}
 use Rattle.win32_spec.specs.MemoryEffects.{HaveRegisters}
@@ -37,7 +33,7 @@ use Rattle.layer_spec.specs.History.{given_of, driven_at}
 use Rattle.layer_spec.specs.Moment.{Moment, Seen, HistoryStep, seen_with}
 use Rattle.layer_spec.specs.Turns.{is_live_process}
 use Rattle.world_spec.specs.SeenStep.{ShowsStep, IsSeenStep, IsBeside}
-use Rattle.world_spec.specs.Owes.{OwesWorld, OwnTurn}
+use Rattle.world_spec.specs.Owes.{OwesWorld}
 use Rattle.world_spec.specs.World.{IsWorld, GoesOn}
 use Rattle.world_spec.specs.SoundLaws.{sound-step}
 

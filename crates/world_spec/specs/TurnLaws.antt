@@ -1,19 +1,18 @@
 -- A turn without an event whose call and whose change of own bytes are calm shows all that is to show of it. So a part
 -- that looks, waits, or fills its scratch is left with its own clause.
-use Rattle.std.proofs.Common.{◌≡◌, ◌≢◌, inl, inr, ℕ, Bool, true, false, List, Option, Some, None, MatchBool, refl, sym, ap}
+use Rattle.std.proofs.Common.{◌≡◌, inl, inr, ℕ, true, false, List, Option, None, refl, sym, ap}
 use Rattle.std.proofs.Common.{◌∙◌, subst}
 use Rattle.std.proofs.lemmas.Bool.{cases_eq}
 use Rattle.w32_base.specs.Part.{KeepsImage}
 use Rattle.w32_base.specs.declared.call.Call.{Call}
 use Rattle.w32_base.specs.declared.call.Reply.{Reply}
-use Rattle.w32_base.specs.declared.entry.Directive.TheVariants as directive
 use Rattle.w32_base.specs.declared.event.Event.{Event}
 use Rattle.w32_base.specs.declared.own.Own.{Own}
 use Rattle.w32_base.specs.declared.part.After.{After}
 use Rattle.w32_base.specs.declared.setup.Setup.{Setup}
 use Rattle.script_spec.specs.declared.script.Script.{Script}
 use Rattle.win32_spec.specs.State.{Process, Win32State}
-use Rattle.win32_spec.specs.Lookup.{is_alive, process_of, is_live, change_process, change_thread, memory_by, with_own}
+use Rattle.win32_spec.specs.Lookup.{process_of, is_live, change_process, change_thread, memory_by, with_own}
 use Rattle.win32_spec.specs.Lookup.{with_posted}
 use Rattle.win32_spec.specs.Driven.{Parts}
 use Rattle.win32_spec.specs.LookupLaws.{process_of-change_same, process_of-change_other, process_in-found}

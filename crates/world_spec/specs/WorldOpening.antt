@@ -1,5 +1,5 @@
 -- A world begins wherever the machine opens with its parts: each thread's part was just opened, and its clause holds.
-use Rattle.std.proofs.Common.{◌≡◌, ◌≢◌, inl, inr, ℕ, zero, suc, ◌≤◌, ◌<◌, true, false, Option, Some, None, List, [], replicate}
+use Rattle.std.proofs.Common.{◌≡◌, inl, inr, ℕ, zero, suc, ◌≤◌, ◌<◌, true, false, Option, Some, None, List, []}
 use Rattle.std.proofs.Common.{slice_index_or, refl, sym, ap, ◌∙◌, subst, arith}
 use Rattle.std.proofs.lemmas.Bool.{cases_eq}
 use Rattle.w32_base.specs.declared.call.Call.{Call}
@@ -10,12 +10,11 @@ use Rattle.w32_base.specs.declared.setup.Setup.{Setup}
 use Rattle.script_spec.specs.declared.script.Script.{Script}
 use Rattle.script_spec.specs.Validity.{IsValid}
 use Rattle.tty_spec.specs.Terminal.{opening_terminal}
-use Rattle.win32_spec.specs.State.{Thread, Section, TerminalObject, Win32State}
+use Rattle.win32_spec.specs.State.{Thread, Win32State}
 use Rattle.win32_spec.specs.Driven.{part_at, IsDrivenOpening, OpensPart, IsOpened}
-use Rattle.win32_spec.specs.Lookup.{number_in, object_number, thread_at}
+use Rattle.win32_spec.specs.Lookup.{number_in, thread_at}
 use Rattle.win32_spec.specs.LookupLaws.{same, differs, same_some}
 use Rattle.win32_spec.specs.Making.{opening_call}
-use Rattle.win32_spec.specs.Named.{object_by}
 use Rattle.win32_spec.specs.Opening.{OpeningNumbers, IsOpening, opening, opening_words}
 use Rattle.win32_spec.specs.OpeningLaws.{wellformed-opening}
 use Rattle.win32_spec.specs.ServedOpening.{served-opening}
@@ -42,9 +41,12 @@ hosted-opening script s h = subst IsHosted (sym h.state) (by_numbers h.numbers)
       section = (opening_words, rw (n.section_even, same n.section n.section refl) refl);
       terminal = (
         opening_terminal,
-        rw (n.terminal_even,
-        differs n.section n.terminal (λ e. omega (arith, n.mutex_above, n.terminal_above, e)),
-        differs n.mutex n.terminal (λ e. omega (arith, n.terminal_above, e)), same n.terminal n.terminal refl) refl,
+        rw (
+          n.terminal_even,
+          differs n.section n.terminal (λ e. omega (arith, n.mutex_above, n.terminal_above, e)),
+          differs n.mutex n.terminal (λ e. omega (arith, n.terminal_above, e)),
+          same n.terminal n.terminal refl,
+        ) refl,
       );
     }
 
