@@ -1,7 +1,6 @@
 -- The directives in which no thread acts: an idle turn, a key and an end lead from a world to a world.
-use Rattle.std.proofs.Common.{◌≡◌, ◌≢◌, ◌⊎◌, inl, inr, ℕ, ◌≤◌, true, false, List, ◌∷◌, Option, Some, None}
-use Rattle.std.proofs.Common.{MatchOption, refl, sym, ap, ◌∙◌, subst}
-use Rattle.std.proofs.lemmas.Bool.{cases_eq}
+use Rattle.std.proofs.Common.{◌≡◌, inl, inr, ℕ, ◌≤◌, true, false, List, Option, Some, None}
+use Rattle.std.proofs.Common.{refl, sym, ap, ◌∙◌, subst}
 use Rattle.w32_base.specs.Part.{KeepsLengths}
 use Rattle.w32_base.specs.declared.call.Call.{Call}
 use Rattle.w32_base.specs.declared.call.Reply.{Reply}
@@ -9,41 +8,34 @@ use Rattle.w32_base.specs.declared.entry.Directive.{Directive}
 use Rattle.w32_base.specs.declared.entry.Directive.TheVariants as directive
 use Rattle.w32_base.specs.declared.entry.Outcome.{Outcome}
 use Rattle.w32_base.specs.declared.entry.Outcome.TheVariants as outcome
-use Rattle.w32_base.specs.declared.event.Event.{Event}
 use Rattle.w32_base.specs.declared.own.Own.{Own}
 use Rattle.w32_base.specs.declared.part.After.{After}
 use Rattle.w32_base.specs.declared.setup.Setup.{Setup}
 use Rattle.script_spec.specs.declared.script.Script.{Script}
-use Rattle.win32_spec.specs.State.{Thread, Process, Win32State}
-use Rattle.win32_spec.specs.Lookup.{process_of, is_live, process_in, thread_of, thread_at, number_of, number_in}
-use Rattle.win32_spec.specs.Lookup.{change_process, change_thread, with_own, with_posted}
-use Rattle.win32_spec.specs.Driven.{part_at, DrivenState, is_same_number, Serves, PartFollows, PartGoes}
-use Rattle.win32_spec.specs.Driven.{DrivenTurn, DrivenBy}
+use Rattle.win32_spec.specs.State.{Process}
+use Rattle.win32_spec.specs.Lookup.{process_of, process_in, number_in}
+use Rattle.win32_spec.specs.Driven.{part_at, DrivenState, is_same_number, PartFollows}
+use Rattle.win32_spec.specs.Driven.{DrivenBy}
 use Rattle.win32_spec.specs.Ends.{with_end}
-use Rattle.win32_spec.specs.Facts.{IsTurnOfThread}
 use Rattle.win32_spec.specs.Making.{opening_call}
-use Rattle.win32_spec.specs.Ready.{is_ready}
 use Rattle.win32_spec.specs.Run.{EndStep, ended_from_outside}
-use Rattle.win32_spec.specs.LookupLaws.{same_some, process_of-change_same, process_in-found}
-use Rattle.win32_spec.specs.WellFormed.{IsWellFormed}
+use Rattle.win32_spec.specs.LookupLaws.{process_in-found}
 use Rattle.win32_spec.specs.FormedLaws.{live_found, found_live}
-use Rattle.win32_spec.specs.CallEffects.{by_bool}
 use Rattle.win32_spec.specs.MemoryEffects.{HaveRegisters}
-use Rattle.posix_spec.specs.State.{PosixState}
 use Rattle.layer_spec.specs.Discipline.{is_end}
 use Rattle.layer_spec.specs.History.{driven_at}
 use Rattle.layer_spec.specs.Moment.{Moment, Seen, HistoryStep}
 use Rattle.layer_spec.specs.Turns.{is_live_process}
 use Rattle.world_spec.specs.SeenStep.{ShowsStep, IsBeside}
-use Rattle.world_spec.specs.Owes.{KeepsTurn, OwesWorld, OwnTurn}
-use Rattle.world_spec.specs.World.{IsWorld, GoesOn, IsTaken}
+use Rattle.world_spec.specs.Owes.{OwesWorld}
+use Rattle.world_spec.specs.World.{IsWorld, GoesOn}
 use Rattle.world_spec.specs.Calm.{IsCalm, is_plain}
 use Rattle.world_spec.specs.CalmLaws.{calm-shows}
 use Rattle.world_spec.specs.CalmSteps.{calm-same, calm-key, calm-end, not_host}
 use Rattle.world_spec.specs.EndLaws.{process-end_stays}
-use Rattle.world_spec.specs.StepLaws.{match_true, match_false, stepped, formed, is_same, same_slot, stays_in}
-use Rattle.world_spec.specs.StepLaws.{slot_found, some_same, follows}
-use Rattle.world_spec.specs.StepLaws.{goes_on, its_thread}
+use Rattle.world_spec.specs.StepLaws.{match_true, is_same}
+use Rattle.world_spec.specs.StepLaws.{follows}
+use Rattle.world_spec.specs.StepLaws.{goes_on}
 
 module _ {A : Type 0} (posted_of : A → Call) (goes : A → Own → Setup → Reply → A → Own → After → Type 0)
     (opening : A → Type 0) (slot_of thread_of_part : A → ℕ)

@@ -1,6 +1,6 @@
 -- The law of a directive: from a world, each directive that it takes leads to a world, with all that a history says of
 -- the step. It follows from what the parts owe, whatever they are.
-use Rattle.std.proofs.Common.{◌≡◌, ◌≢◌, ◌⊎◌, inl, inr, ℕ, ◌≤◌, true, false, List, ◌∷◌, Option, Some, None}
+use Rattle.std.proofs.Common.{◌≡◌, ◌≢◌, ◌⊎◌, inl, inr, ℕ, true, false, List, ◌∷◌, Option, Some, None}
 use Rattle.std.proofs.Common.{MatchOption, refl, sym, ap, ◌∙◌, subst}
 use Rattle.std.proofs.lemmas.Bool.{cases_eq}
 use Rattle.w32_base.specs.Part.{KeepsLengths}
@@ -16,33 +16,25 @@ use Rattle.w32_base.specs.declared.part.After.{After}
 use Rattle.w32_base.specs.declared.setup.Setup.{Setup}
 use Rattle.script_spec.specs.declared.script.Script.{Script}
 use Rattle.win32_spec.specs.State.{Thread, Process, Win32State}
-use Rattle.win32_spec.specs.Lookup.{process_of, is_live, process_in, thread_of, thread_at, number_of, number_in}
+use Rattle.win32_spec.specs.Lookup.{process_of, is_live, thread_of, thread_at, number_of, number_in}
 use Rattle.win32_spec.specs.Lookup.{change_process, change_thread, with_own, with_posted}
-use Rattle.win32_spec.specs.Driven.{part_at, DrivenState, is_same_number, Serves, PartFollows, PartGoes}
+use Rattle.win32_spec.specs.Driven.{part_at, DrivenState, Serves, PartFollows, PartGoes}
 use Rattle.win32_spec.specs.Driven.{DrivenTurn, DrivenBy}
-use Rattle.win32_spec.specs.Ends.{with_end}
 use Rattle.win32_spec.specs.Facts.{IsTurnOfThread}
 use Rattle.win32_spec.specs.Making.{opening_call}
 use Rattle.win32_spec.specs.Ready.{is_ready}
-use Rattle.win32_spec.specs.Run.{EndStep, ended_from_outside}
-use Rattle.win32_spec.specs.LookupLaws.{same_some, process_of-change_same, process_in-found}
+use Rattle.win32_spec.specs.LookupLaws.{same_some, process_of-change_same}
 use Rattle.win32_spec.specs.WellFormed.{IsWellFormed}
 use Rattle.win32_spec.specs.FormedLaws.{live_found, found_live}
 use Rattle.win32_spec.specs.CallEffects.{by_bool}
 use Rattle.win32_spec.specs.MemoryEffects.{HaveRegisters}
 use Rattle.posix_spec.specs.State.{PosixState}
-use Rattle.layer_spec.specs.Discipline.{is_end}
 use Rattle.layer_spec.specs.History.{driven_at}
-use Rattle.layer_spec.specs.Moment.{Moment, Seen, HistoryStep}
+use Rattle.layer_spec.specs.Moment.{Moment, Seen}
 use Rattle.layer_spec.specs.Turns.{is_live_process}
-use Rattle.world_spec.specs.SeenStep.{ShowsStep, IsBeside}
 use Rattle.world_spec.specs.Owes.{KeepsTurn, OwesWorld, OwnTurn}
 use Rattle.world_spec.specs.World.{IsWorld, GoesOn, IsTaken}
-use Rattle.world_spec.specs.Calm.{IsCalm, is_plain}
-use Rattle.world_spec.specs.CalmLaws.{calm-shows}
-use Rattle.world_spec.specs.CalmSteps.{calm-same, calm-key, calm-end, not_host}
-use Rattle.world_spec.specs.EndLaws.{process-end_stays}
-use Rattle.world_spec.specs.StepLaws.{match_true, match_false, stepped, formed, is_same, same_slot, stays_in}
+use Rattle.world_spec.specs.StepLaws.{match_true, match_false, stepped, formed, same_slot, stays_in}
 use Rattle.world_spec.specs.StepLaws.{slot_found, some_same, follows}
 use Rattle.world_spec.specs.StepLaws.{goes_on, its_thread}
 use Rattle.world_spec.specs.StillLaws.{idle_goes, key_goes, end_goes}
