@@ -29,3 +29,4 @@ pub mod HoldLaws
 pub mod ClaimTurns
 pub mod ClaimHolds
 pub mod RestingWorld
+pub mod RowsBesideLaws
