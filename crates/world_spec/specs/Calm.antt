@@ -10,6 +10,7 @@ use Rattle.win32_spec.specs.Handles.{handle_of}
 use Rattle.win32_spec.specs.State.{Process, Win32State}
 use Rattle.win32_spec.specs.Lookup.{is_alive, process_of, thread_in, terminal_in}
 use Rattle.layer_spec.specs.Words.{word_in}
+use Rattle.roster.specs.Turns.{roster_handle}
 use Rattle.world_spec.specs.Facts.{suspended_by}
 
 -- a process before and after such a change
@@ -18,6 +19,7 @@ pub record CalmProcess (p q : Process) : Type 0 where
   pub cyg : q.own.cyg ≡ p.own.cyg
   pub placed : q.placed ≡ p.placed
   pub suspended : (t : ℕ) → suspended_by (thread_in q.threads t) ≡ suspended_by (thread_in p.threads t)
+  pub roster : handle_of q.handles roster_handle ≡ handle_of p.handles roster_handle
   pub handles : (h names : ℕ) → handle_of p.handles h ≡ Some names → handle_of q.handles h ≡ Some names
 
 -- each process that is alive after it was alive before it, and shows the same

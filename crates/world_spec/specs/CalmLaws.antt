@@ -10,9 +10,12 @@ use Rattle.win32_spec.specs.Handles.{handle_of}
 use Rattle.win32_spec.specs.Effects.{IsWriteTo}
 use Rattle.win32_spec.specs.Facts.{IsWrittenTo}
 use Rattle.win32_spec.specs.State.{Process, Win32State}
+use Rattle.win32_spec.specs.Lookup.{is_alive}
 use Rattle.win32_spec.specs.Lookup.{process_of, thread_of, memory_of, memory_by}
 use Rattle.win32_spec.specs.Named.{handles_of, named_by}
-use Rattle.win32_spec.specs.FormedLaws.{live_found}
+use Rattle.win32_spec.specs.FormedLaws.{live_found, found_live}
+use Rattle.win32_spec.specs.LookupLaws.{same_some}
+use Rattle.roster.specs.Turns.{roster_handle}
 use Rattle.posix_spec.specs.Run.{PosixStep}
 use Rattle.layer_spec.specs.Decodes.{Decodes}
 use Rattle.layer_spec.specs.Decoding.{main_image}
@@ -33,6 +36,7 @@ pub words-kept : {A : Type 0} → (step : HistoryStep A) → ((i : ℕ) → word
     → is_plain step.entry.call ≡ true → KeepsWords step
 words-kept step same plain = record {
   grows = omega (arith, same 0);
+  by_one = omega (arith, same 0);
   claims = λ row w claim. absurd (let e : false ≡ true = ap is_plain (sym claim.asks) ∙ plain in cc);
   mains = λ row from. inl (same (main_place row));
   unclaimed = λ row above. row_stays row;
@@ -109,6 +113,16 @@ module _ {A : Type 0} (step : HistoryStep A) (calm : AreCalm step.before.win32 s
   processes-kept unwritten = record {
     low_handles = λ v h names few named live. still_named v h names named live;
     own_handles = λ v h names named live other. still_named v h names named live;
+    roster_handles = λ v names live named.
+        let at = was v live in
+        let p = calm v at.0 at.2 (let q = live_found (process_of step.after.win32.processes v) live in
+        ap (λ (x : Process). is_alive x.life) (same_some (process_of step.after.win32.processes v) at.0 q.0 at.2 q.1) ∙ q.2) in
+        (
+          v,
+          found_live (process_of step.before.win32.processes v) p.0 p.1 p.2,
+          ap (λ o. handle_of (handles_of o) roster_handle) p.1 ∙ (sym p.3.roster
+          ∙ (sym (ap (λ o. handle_of (handles_of o) roster_handle) at.2) ∙ named)),
+        );
     writes = λ v written. absurd (unwritten v written);
     unnamed = λ v is acts live. image_kept v live;
     helpers = λ v t acts other live. image_kept v live;

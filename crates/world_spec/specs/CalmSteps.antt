@@ -28,6 +28,7 @@ calm_process p = record {
   cyg = refl;
   placed = refl;
   suspended = λ t. refl;
+  roster = refl;
   handles = λ h names e. e;
 }
 
@@ -41,6 +42,7 @@ then_process p q r a b = record {
   cyg = b.cyg ∙ a.cyg;
   placed = b.placed ∙ a.placed;
   suspended = λ t. b.suspended t ∙ a.suspended t;
+  roster = b.roster ∙ a.roster;
   handles = λ h names e. b.handles h names (a.handles h names e);
 }
 
@@ -142,6 +144,7 @@ calm-acts mid w t own next image cyg = record {
                   cyg = cyg ∙ ap (λ o. let m : Own = memory_of o in m.cyg) that.2;
                   placed = refl;
                   suspended = λ u. same_suspended t next p.threads u;
+                  roster = refl;
                   handles = λ h names f. f;
                 }),
               )

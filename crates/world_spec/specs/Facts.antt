@@ -15,6 +15,7 @@ use Rattle.layer_spec.specs.Moment.{HistoryStep}
 use Rattle.layer_spec.specs.Transitions.{Op, is_op}
 use Rattle.layer_spec.specs.Turns.{is_live_process}
 use Rattle.roster.specs.Roster.{HolderMayRely}
+use Rattle.roster.specs.Turns.{roster_handle}
 use Rattle.roster.specs.Words.{changed_word, is_process_word, is_live_word}
 use Rattle.world_spec.specs.Made.{IsMaker, Claims, IsClaimedBy, opener_of, IsNamed}
 
@@ -70,7 +71,8 @@ pub record Names {A : Type 0} (step : HistoryStep A) (row : ℕ) : Type 0 where
       → main_at step.after.win32 other ≡ main_at step.before.win32 other
 
 -- The facts of the words.
--- The number of claimed rows never falls, and whoever claims a row is answered that number and adds one to it.
+-- The number of claimed rows never falls and grows by one at most, and whoever claims a row is answered that number and
+-- adds one to it.
 -- Main words change by the table. The words of a row that nobody claimed stay. Those of a row that was claimed, until it
 -- is published or dropped, change only in turns of the main thread that claimed it.
 -- While a thread holds the roster mutex, others leave the roster as it is.
@@ -79,6 +81,7 @@ pub record Names {A : Type 0} (step : HistoryStep A) (row : ℕ) : Type 0 where
 -- zombie while its image is alive. A live row comes to name a process only as `Names` says.
 pub record KeepsWords {A : Type 0} (step : HistoryStep A) : Type 0 where
   pub grows : claimed_in step.before.win32 ≤ claimed_in step.after.win32
+  pub by_one : claimed_in step.after.win32 ≤ claimed_in step.before.win32 + 1
   pub claims : (row w : ℕ) → Claims row w (record { before = step.before; entry = step.entry })
       → (row ≡ claimed_in step.before.win32 + 1) × (claimed_in step.after.win32 ≡ row)
   pub mains : (row : ℕ) → 1 ≤ row → ChangesByTable (main_at step.before.win32 row) (main_at step.after.win32 row)
@@ -107,7 +110,8 @@ pub record KeepsWords {A : Type 0} (step : HistoryStep A) : Type 0 where
 
 -- The facts of processes.
 -- Handles 1 to 8 of a live process, once it has them, name the same for ever, also in its own turns. Every other handle
--- names the same but in turns of the thread to which it was answered.
+-- names the same but in turns of the thread to which it was answered. What a handle 2 names, a handle 2 named before: so
+-- all of them name one roster mutex.
 -- The bytes of a process are written by another only in turns of its maker, before a main word names it. While none names
 -- it, its own turns leave data, heap and stack alone too. Its threads 1 and 2 leave them alone always.
 -- A thread is suspended and resumed only in turns of its own process, or of its maker before a main word names it.
@@ -118,6 +122,9 @@ pub record KeepsProcesses {A : Type 0} (step : HistoryStep A) : Type 0 where
       → is_live_process step.after.win32 v ≡ true
       → (IsTurnOfThread step.before.win32 step.entry.directive v (opener_of step.past v h) → ⊥)
       → named_by step.after.win32 v h ≡ Some names
+  pub roster_handles : (v names : ℕ) → is_live_process step.after.win32 v ≡ true
+      → named_by step.after.win32 v roster_handle ≡ Some names
+      → (w : ℕ) × (is_live_process step.before.win32 w ≡ true) × (named_by step.before.win32 w roster_handle ≡ Some names)
   pub writes : (v : ℕ) → IsWrittenTo step.before.win32 step.entry.directive step.entry.call v → IsMakersTurn step v
   pub unnamed : (v : ℕ) → (IsNamed step.before.win32 v → ⊥)
       → IsTurnOf step.before.win32 step.entry.directive v → is_live_process step.after.win32 v ≡ true

@@ -83,6 +83,7 @@ module _ {A : Type 0} (step : HistoryStep A) (row : ℕ) (op : Op) (may : MayCha
   pub main-kept : KeepsWords step
   main-kept = record {
     grows = omega (arith, count);
+    by_one = omega (arith, count);
     claims = λ r w claim. absurd (let e : true ≡ false = sym (ap is_claim claim.asks) ∙ may.no_claim in cc);
     mains = λ r from. each_row (λ k. ChangesByTable (main_at step.before.win32 k) (main_at step.after.win32 k))
         (inr (op, may.legal, may.change.changed)) (λ k low same. inl same) r from;

@@ -20,7 +20,7 @@ use Rattle.posix_spec.specs.State.{PosixState}
 use Rattle.layer_spec.specs.History.{given_of}
 use Rattle.layer_spec.specs.Moment.{Moment, Seen, HistoryStep, seen_with}
 use Rattle.layer_spec.specs.Turns.{is_live_process}
-use Rattle.world_spec.specs.Sound.{IsSoundMoment}
+use Rattle.world_spec.specs.Sound.{IsSoundMoment, HasSpare}
 use Rattle.world_spec.specs.SeenStep.{ShowsStep, IsSeenStep, IsBeside, turn_step}
 
 module _ {P : Type 0} (posted_of : P → Call) (goes : P → Own → Setup → Reply → P → Own → After → Type 0)
@@ -77,7 +77,8 @@ module _ {A P : Type 0} (posted_of : P → Call) (goes : P → Own → Setup →
         → is_live_process step.before.win32 w ≡ true → is_live_process step.after.win32 w ≡ true
         → clause step.past step.before w part → clause (seen_with step) step.after w part
     pub turns : (past : List (Seen A)) (now : Moment A) (slot t : ℕ) (part : P) (called : Call) (reply : Reply)
-        (given : Option Event) (next : Option P) (new : Win32State) → IsSoundMoment script past now → thread_of_part part ≡ t
+        (given : Option Event) (next : Option P) (new : Win32State) → IsSoundMoment script past now
+        → HasSpare script past → thread_of_part part ≡ t
         → (turn : OwnTurn posted_of goes script now.win32 slot t part called reply given next new)
         → clause past now turn.process.number part
         → KeepsTurn past now slot t turn.process.number called reply given next new

@@ -17,7 +17,7 @@ use Rattle.win32_spec.specs.Lookup.{process_of, is_live, memory_by}
 use Rattle.win32_spec.specs.CallEffects.{by_bool}
 use Rattle.posix_spec.specs.State.{PosixState}
 use Rattle.layer_spec.specs.Moment.{Moment, Seen}
-use Rattle.world_spec.specs.Sound.{IsSoundMoment}
+use Rattle.world_spec.specs.Sound.{IsSoundMoment, HasSpare}
 use Rattle.world_spec.specs.Owes.{LivesOn, OwnTurn, KeepsTurn, KeepsClause}
 use Rattle.world_spec.specs.StepLaws.{match_true, match_false}
 
@@ -41,7 +41,7 @@ module _ {A W P : Type 0} (whole_posted : W → Call) (whole_goes : W → Own �
 
   module _ (past : List (Seen A)) (now : Moment A) (slot t : ℕ) (x : W) (p : P) (called : Call) (reply : Reply)
       (given : Option Event) (next : Option W) (new : Win32State) (sound : IsSoundMoment script past now)
-      (same : whole_thread x ≡ t) (runs : RunsPiece x p)
+      (spare : HasSpare script past)      (same : whole_thread x ≡ t) (runs : RunsPiece x p)
       (turn : OwnTurn whole_posted whole_goes script now.win32 slot t x called reply given next new)
       (stood : whole_clause past now turn.process.number x) where
     abbrev Result : Type 0
@@ -91,7 +91,7 @@ module _ {A W P : Type 0} (whole_posted : W → Call) (whole_goes : W → Own �
             after = on.after;
           });
         } in
-        let kept = keeps.turns past now slot t p called reply given (Some m.0) new sound (sym runs.thread ∙ same) piece
+        let kept = keeps.turns past now slot t p called reply given (Some m.0) new sound spare (sym runs.thread ∙ same) piece
         (runs.clause_of past now turn.process.number stood) in
         record {
           told = kept.told;
@@ -116,7 +116,7 @@ module _ {A W P : Type 0} (whole_posted : W → Call) (whole_goes : W → Own �
           goes_on = match_false _ _ (is_live (process_of turn.mid.processes turn.process.number)) dead
               (gone.0, gone.1, refl);
         } in
-        let kept = keeps.turns past now slot t p called reply given None new sound (sym runs.thread ∙ same) piece
+        let kept = keeps.turns past now slot t p called reply given None new sound spare (sym runs.thread ∙ same) piece
         (runs.clause_of past now turn.process.number stood) in
         record {
           told = kept.told;

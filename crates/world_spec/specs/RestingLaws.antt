@@ -12,7 +12,7 @@ use Rattle.win32_spec.specs.Call.{CallStep}
 use Rattle.win32_spec.specs.Making.{opening_call}
 use Rattle.layer_spec.specs.Moment.{Moment, Seen}
 use Rattle.layer_spec.specs.Turns.{is_live_process}
-use Rattle.world_spec.specs.Sound.{IsSoundMoment}
+use Rattle.world_spec.specs.Sound.{IsSoundMoment, HasSpare}
 use Rattle.world_spec.specs.Owes.{OwnTurn, KeepsTurn, KeepsClause, OwesWorld}
 use Rattle.world_spec.specs.Calm.{is_plain_call}
 use Rattle.world_spec.specs.CalmSteps.{calm-same}
@@ -28,12 +28,13 @@ resting_call script s w t false r mid step = (step.1, refl)
 
 module _ {A : Type 0} (script : Script) where
   resting_turn : (past : List (Seen A)) (now : Moment A) (slot t : ℕ) (part : Resting) (called : Call) (reply : Reply)
-      (given : Option Event) (next : Option Resting) (new : Win32State) → IsSoundMoment script past now → part.thread ≡ t
+      (given : Option Event) (next : Option Resting) (new : Win32State) → IsSoundMoment script past now
+      → HasSpare script past → part.thread ≡ t
       → (turn : OwnTurn resting_posted RestingGoes script now.win32 slot t part called reply given next new)
       → RestingClause past now turn.process.number part
       → KeepsTurn resting_posted RestingGoes (λ p. p.thread) RestingClause script past now slot t turn.process.number
       called reply given next new
-  resting_turn past now slot t part called reply given next new sound same turn clause =
+  resting_turn past now slot t part called reply given next new sound spare same turn clause =
       let at = resting_call script now.win32 turn.process.number t part.rests reply turn.mid
       (subst (λ c. CallStep script now.win32 turn.process.number t c reply turn.mid) turn.own_call turn.posted.step) in
       let calm = calm-same now.win32 turn.mid at.0 in

@@ -20,6 +20,7 @@ use Rattle.layer_spec.specs.History.{driven_at}
 use Rattle.layer_spec.specs.Moment.{Moment, Seen}
 use Rattle.world_spec.specs.Resting.{Resting, resting_posted, RestingGoes, IsRestingOpening, RestingClause}
 use Rattle.world_spec.specs.RestingLaws.{resting_owes}
+use Rattle.world_spec.specs.Sound.{HasSpare}
 use Rattle.world_spec.specs.World.{IsWorld, GoesOn, IsTaken}
 use Rattle.world_spec.specs.WorldLaws.{world-goes}
 use Rattle.world_spec.specs.WorldOpening.{world-opens}
@@ -53,12 +54,12 @@ resting-opens script now valid driven opened =
 
 pub resting-goes : (script : Script) (past : List (Seen Resting)) (now : Moment Resting) → IsValid script
     → IsRestingWorld script past now → (d : Directive) (called : Option Call) (came : Outcome) (new : DrivenState Resting)
-    → IsTaken d
+    → IsTaken d → HasSpare script past
     → DrivenBy resting_posted RestingGoes IsRestingOpening resting_slot resting_thread script (driven_at now None) d called
     came new
     → GoesOn resting_posted RestingGoes IsRestingOpening resting_slot resting_thread RestingClause script past now d called
     came new
-resting-goes script past now valid world d called came new taken driven =
+resting-goes script past now valid world d called came new taken spare driven =
     world-goes resting_posted RestingGoes IsRestingOpening resting_slot resting_thread RestingClause resting_begins
     (λ p q o n s r a went. ap resting_slot went.part) (λ p q o n s r a went. ap resting_thread went.part) resting_lengths
-    script (registers-valid script valid) (resting_owes script) past now world d called came new taken driven
+    script (registers-valid script valid) (resting_owes script) past now world d called came new taken spare driven

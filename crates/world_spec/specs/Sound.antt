@@ -1,8 +1,8 @@
 -- What holds at each moment of a world for everybody, so that no part's clause need say it.
-use Rattle.std.specs.Prelude.{◌≡◌, ℕ, ◌<◌, ◌≤◌, true, List, Some}
+use Rattle.std.specs.Prelude.{◌≡◌, ℕ, ◌+◌, ◌<◌, ◌≤◌, true, List, length, Some}
 use Rattle.script_spec.specs.declared.script.Script.{Script}
 use Rattle.tty_spec.specs.Terminal.{Terminal}
-use Rattle.win32_spec.specs.Named.{object_by}
+use Rattle.win32_spec.specs.Named.{named_by, object_by}
 use Rattle.win32_spec.specs.State.{TerminalObject, Section, Win32State}
 use Rattle.win32_spec.specs.WellFormed.{IsWellFormed}
 use Rattle.layer_spec.specs.Decodes.{Decodes}
@@ -10,6 +10,7 @@ use Rattle.layer_spec.specs.Decoding.{main_image}
 use Rattle.layer_spec.specs.Moment.{Moment, Seen}
 use Rattle.layer_spec.specs.Turns.{is_live_process}
 use Rattle.layer_spec.specs.Words.{claimed_in, main_at, group_at, exit_at}
+use Rattle.roster.specs.Turns.{roster_handle}
 use Rattle.roster.specs.Words.{is_live_word}
 use Rattle.world_spec.specs.Made.{IsClaimedBy}
 
@@ -25,18 +26,30 @@ pub record IsBlankRow (s : Win32State) (row : ℕ) : Type 0 where
   pub group : group_at s row ≡ 0
   pub exit : exit_at s row ≡ 0
 
--- The rows as a whole. Those that nobody claimed are blank. A row that was claimed is among the claimed ones, and was
--- claimed by one process. Two live rows name two images.
+-- The rows as a whole. There are not more claimed ones than entries, and one. Those that nobody claimed are blank. A row
+-- that was claimed is among the claimed ones, and was claimed by one process. Two live rows name two images.
 pub record AreRowsSound {A : Type 0} (past : List (Seen A)) (s : Win32State) : Type 0 where
+  pub few : claimed_in s ≤ length past + 1
   pub blank : (row : ℕ) → claimed_in s < row → IsBlankRow s row
   pub within : (row w : ℕ) → IsClaimedBy past row w → row ≤ claimed_in s
   pub once : (row v w : ℕ) → IsClaimedBy past row v → IsClaimedBy past row w → v ≡ w
   pub apart : (a b : ℕ) → 1 ≤ a → 1 ≤ b → is_live_word (main_at s a) ≡ true → is_live_word (main_at s b) ≡ true
       → main_image (main_at s a) ≡ main_image (main_at s b) → a ≡ b
 
--- The state is well formed and has its host, rows and images show the POSIX state, and the rows are sound.
+-- Handle 2 names the same in every live process that has one: the roster mutex.
+abbrev pub HaveOneRoster : Win32State → Type 0
+HaveOneRoster s = (v w m n : ℕ) → is_live_process s v ≡ true → is_live_process s w ≡ true
+    → named_by s v roster_handle ≡ Some m → named_by s w roster_handle ≡ Some n → m ≡ n
+
+-- The state is well formed and has its host, rows and images show the POSIX state, the rows are sound, and there is one
+-- roster mutex.
 pub record IsSoundMoment {A : Type 0} (script : Script) (past : List (Seen A)) (now : Moment A) : Type 0 where
   pub formed : IsWellFormed script now.win32
   pub hosted : IsHosted now.win32
   pub decodes : Decodes script now.win32 now.posix
   pub rows : AreRowsSound past now.win32
+  pub roster : HaveOneRoster now.win32
+
+-- The history may have one entry more within the script's budget.
+abbrev pub HasSpare : {A : Type 0} → Script → List (Seen A) → Type 0
+HasSpare script past = length past < script.setup.limits.budget

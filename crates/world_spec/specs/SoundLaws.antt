@@ -18,7 +18,7 @@ use Rattle.layer_spec.specs.Words.{claimed_in, main_at}
 use Rattle.roster.specs.Words.{is_live_word, is_process_word, is_live_main, is_process_main}
 use Rattle.world_spec.specs.Made.{IsClaimedBy}
 use Rattle.world_spec.specs.Facts.{Names}
-use Rattle.world_spec.specs.Sound.{AreRowsSound, IsSoundMoment}
+use Rattle.world_spec.specs.Sound.{AreRowsSound, HaveOneRoster, IsSoundMoment}
 use Rattle.world_spec.specs.SeenStep.{IsSeenStep}
 use Rattle.world_spec.specs.HostLaws.{after_formed, hosted-step}
 
@@ -121,8 +121,15 @@ module _ {A : Type 0} (script : Script) (step : HistoryStep A) (registers : Have
     ]
   ]
 
+  one_roster : HaveOneRoster step.after.win32
+  one_roster v w m n live_v live_w named_v named_w =
+      let a = seen.shows.facts.processes.roster_handles v m live_v named_v in
+      let b = seen.shows.facts.processes.roster_handles w n live_w named_w in
+      seen.before.roster a.0 b.0 m n a.1 b.1 a.2 b.2
+
   pub rows-step : AreRowsSound (seen_with step) step.after.win32
   rows-step = record {
+    few = omega (arith, rows.few, seen.shows.facts.words.by_one);
     blank = λ row above.
         let low : claimed_in step.before.win32 < row = omega (arith, above, seen.shows.facts.words.grows) in
         let stays = seen.shows.facts.words.unclaimed row low in
@@ -139,4 +146,5 @@ module _ {A : Type 0} (script : Script) (step : HistoryStep A) (registers : Have
     hosted = hosted-step script step registers seen;
     decodes = seen.shows.decodes;
     rows = rows-step;
+    roster = one_roster;
   }

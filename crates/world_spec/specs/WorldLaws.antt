@@ -33,6 +33,7 @@ use Rattle.layer_spec.specs.History.{driven_at}
 use Rattle.layer_spec.specs.Moment.{Moment, Seen}
 use Rattle.layer_spec.specs.Turns.{is_live_process}
 use Rattle.world_spec.specs.Owes.{KeepsTurn, OwesWorld, OwnTurn}
+use Rattle.world_spec.specs.Sound.{HasSpare}
 use Rattle.world_spec.specs.World.{IsWorld, GoesOn, IsTaken}
 use Rattle.world_spec.specs.StepLaws.{match_true, match_false, stepped, formed, same_slot, stays_in}
 use Rattle.world_spec.specs.StepLaws.{slot_found, some_same, follows}
@@ -64,7 +65,7 @@ module _ {A : Type 0} (posted_of : A → Call) (goes : A → Own → Setup → R
       PartFollows posted_of goes opening slot_of thread_of_part now.win32 new.win32 now.parts new.parts slot t
 
   -- A turn of a thread that is ready.
-  module _ (slot t : ℕ) (ready : is_ready now.win32 slot t ≡ true) (call : Call) (reply : Reply) (new : DrivenState A)
+  module _ (slot t : ℕ) (spare : HasSpare script past) (ready : is_ready now.win32 slot t ≡ true) (call : Call) (reply : Reply) (new : DrivenState A)
       (of : DrivenTurn posted_of goes opening slot_of thread_of_part script now.win32 now.parts slot t call reply new.last
       new.win32 new.parts) where
     abbrev w : ℕ
@@ -101,7 +102,7 @@ module _ {A : Type 0} (posted_of : A → Call) (goes : A → Own → Setup → R
         subst (λ k. KeepsTurn posted_of goes thread_of_part clause script past now slot t k call reply new.last next new.win32)
         same
         (owes.keeps.turns past now slot t of.part call reply new.last next new.win32
-        world.sound
+        world.sound spare
         (its_thread posted_of goes opening slot_of thread_of_part clause begins keeps_slot keeps_thread keeps_lengths
         script registers owes past now world (directive.Turn slot t) (Some call) (outcome.Step reply) new driven slot t
         of.part of.before) turn
@@ -256,17 +257,18 @@ module _ {A : Type 0} (posted_of : A → Call) (goes : A → Own → Setup → R
 
   -- From a world, each directive that it takes leads to a world.
   pub world-goes : (d : Directive) (called : Option Call) (came : Outcome) (new : DrivenState A) → IsTaken d
+      → HasSpare script past
       → Driven d called came new → Goes d called came new
-  world-goes (directive.Turn slot t) called came new taken driven =
+  world-goes (directive.Turn slot t) called came new taken spare driven =
       by_bool (is_ready now.win32 slot t)
       (λ ready of. subst (λ c. Goes (directive.Turn slot t) c came new) (sym of.2)
       (subst (λ o. Goes (directive.Turn slot t) (Some of.0) o new) (sym of.3)
-      (ready_goes slot t ready of.0 of.1 new of.4)))
+      (ready_goes slot t spare ready of.0 of.1 new of.4)))
       (λ waits rests. idle_goes posted_of goes opening slot_of thread_of_part clause begins keeps_slot keeps_thread keeps_lengths script
       registers owes past now world slot t called came new driven rests.0 rests.1 rests.2 rests.3 rests.4) driven
-  world-goes (directive.End slot) called came new taken driven =
+  world-goes (directive.End slot) called came new taken spare driven =
       end_goes posted_of goes opening slot_of thread_of_part clause begins keeps_slot keeps_thread keeps_lengths script
       registers owes past now world slot called came new taken driven
-  world-goes (directive.Key b) called came new taken driven =
+  world-goes (directive.Key b) called came new taken spare driven =
       key_goes posted_of goes opening slot_of thread_of_part clause begins keeps_slot keeps_thread keeps_lengths script
       registers owes past now world b called came new driven

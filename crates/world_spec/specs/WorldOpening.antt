@@ -1,4 +1,5 @@
 -- A world begins wherever the machine opens with its parts: each thread's part was just opened, and its clause holds.
+use Rattle.std.proofs.Common.{Bool, nat_eq, if◌then◌else◌}
 use Rattle.std.proofs.Common.{◌≡◌, inl, inr, ℕ, zero, suc, ◌≤◌, ◌<◌, true, false, Option, Some, None, List, []}
 use Rattle.std.proofs.Common.{slice_index_or, refl, sym, ap, ◌∙◌, subst, arith}
 use Rattle.std.proofs.lemmas.Bool.{cases_eq}
@@ -15,7 +16,7 @@ use Rattle.win32_spec.specs.Driven.{part_at, IsDrivenOpening, OpensPart, IsOpene
 use Rattle.win32_spec.specs.Lookup.{number_in, thread_at}
 use Rattle.win32_spec.specs.LookupLaws.{same, differs, same_some}
 use Rattle.win32_spec.specs.Making.{opening_call}
-use Rattle.win32_spec.specs.Opening.{OpeningNumbers, IsOpening, opening, opening_words}
+use Rattle.win32_spec.specs.Opening.{opening_host, opening_process, OpeningNumbers, IsOpening, opening, opening_words}
 use Rattle.win32_spec.specs.OpeningLaws.{wellformed-opening}
 use Rattle.win32_spec.specs.ServedOpening.{served-opening}
 use Rattle.posix_spec.specs.Opening.{opening_of}
@@ -28,7 +29,12 @@ use Rattle.layer_spec.specs.Rows.{main_place, group_place, exit_place}
 use Rattle.layer_spec.specs.Words.{main_at}
 use Rattle.roster.specs.Words.{is_live_word}
 use Rattle.world_spec.specs.Owes.{OwesWorld}
-use Rattle.world_spec.specs.Sound.{IsHosted, IsBlankRow, AreRowsSound}
+use Rattle.world_spec.specs.Sound.{IsHosted, IsBlankRow, AreRowsSound, HaveOneRoster}
+use Rattle.world_spec.specs.StepLaws.{some_same}
+use Rattle.roster.specs.Turns.{roster_handle}
+use Rattle.layer_spec.specs.Turns.{is_live_process}
+use Rattle.win32_spec.specs.Handles.{handle_of}
+use Rattle.win32_spec.specs.Named.{handles_of, named_by}
 use Rattle.world_spec.specs.World.{IsWorld}
 
 -- the opening state has its host
@@ -65,6 +71,7 @@ one_claimed = refl
 -- at the opening one row is claimed, by nobody that was seen, and it alone is live
 pub rows-opening : {A : Type 0} → (script : Script) (s : Win32State) → IsOpening script s → AreRowsSound {A = A} [] s
 rows-opening script s h = subst (AreRowsSound []) (sym h.state) (record {
+  few = omega (arith, one_claimed);
   blank = λ row above. blank row (omega (arith, above, one_claimed));
   within = λ row w claim. absurd claim;
   once = λ row v w claim other. absurd claim;
@@ -92,6 +99,23 @@ rows-opening script s h = subst (AreRowsSound []) (sym h.state) (record {
           absurd (let e : false ≡ true = never in cc)
     ]
 
+-- and both processes have the roster mutex by handle 2
+pub roster-opening : (script : Script) (s : Win32State) → IsOpening script s → HaveOneRoster s
+roster-opening script s h = subst HaveOneRoster (sym h.state) (λ v w m n live_v live_w named_v named_w.
+    sym (only v m live_v named_v) ∙ only w n live_w named_w)
+  where
+    only : (v m : ℕ) → is_live_process (opening h.numbers h.program h.placed) v ≡ true
+        → named_by (opening h.numbers h.program h.placed) v roster_handle ≡ Some m → h.numbers.mutex ≡ m
+    only v m live named = by_tests (nat_eq 1 v) (nat_eq 2 v) named
+      where
+        by_tests : (a b : Bool)
+            → handle_of (handles_of (if a then Some (opening_host h.numbers)
+            else if b then Some (opening_process h.numbers h.program h.placed) else None)) roster_handle ≡ Some m
+            → h.numbers.mutex ≡ m
+        by_tests true b e = some_same h.numbers.mutex m e
+        by_tests false true e = some_same h.numbers.mutex m e
+        by_tests false false e = absurd (cc)
+
 module _ {A : Type 0} (posted_of : A → Call) (goes : A → Own → Setup → Reply → A → Own → After → Type 0)
     (opening_part : A → Type 0) (slot_of thread_of_part : A → ℕ)
     (clause : List (Seen A) → Moment A → ℕ → A → Type 0)
@@ -108,6 +132,7 @@ module _ {A : Type 0} (posted_of : A → Call) (goes : A → Own → Setup → R
       hosted = hosted-opening script now.win32 driven.opens;
       decodes = subst (λ p. Decodes script now.win32 p) (sym opened) (decodes_at_opening script now.win32 valid driven.opens);
       rows = rows-opening script now.win32 driven.opens;
+      roster = roster-opening script now.win32 driven.opens;
     };
     served = served-opening posted_of goes opening_part slot_of thread_of_part begins script (driven_at now None) driven;
     stands = stands;
