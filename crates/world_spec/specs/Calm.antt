@@ -33,7 +33,7 @@ pub record IsCalm (s new : Win32State) : Type 0 where
   pub terminal : terminal_in new.objects ≡ terminal_in s.objects
   pub processes : AreCalm s new
 
--- A call that the discipline doesn't speak of, and that writes no other process's bytes; or none.
+-- A call that the discipline doesn't speak of, that writes no other process's bytes and ends none; or none.
 abbrev pub is_plain_op : TtyOp → Bool
 is_plain_op tty.Key = false
 is_plain_op _ = true
@@ -41,6 +41,8 @@ is_plain_op _ = true
 abbrev pub is_plain_call : Call → Bool
 is_plain_call (call.FetchAdd h i n) = false
 is_plain_call (call.Create program_no list) = false
+is_plain_call (call.Terminate h code) = false
+is_plain_call (call.ExitSelf code) = false
 is_plain_call (call.WriteMemory h region place own_region own_place count) = false
 is_plain_call (call.Module m) = false
 is_plain_call (call.Tty h op) = is_plain_op op

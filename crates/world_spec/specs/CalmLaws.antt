@@ -1,4 +1,5 @@
 -- A step without an event that makes a calm change by a plain call, or by none, shows all that is to show.
+use Rattle.std.proofs.Common.{refl}
 use Rattle.std.proofs.Common.{◌≡◌, inl, inr, ℕ, true, false, Option, Some, None, MatchOption}
 use Rattle.std.proofs.Common.{sym, ap, ◌∙◌, subst, arith}
 use Rattle.w32_base.specs.Part.{KeepsImage}
@@ -26,7 +27,7 @@ use Rattle.layer_spec.specs.Rows.{main_place, group_place, exit_place}
 use Rattle.layer_spec.specs.Turns.{is_live_process}
 use Rattle.layer_spec.specs.Words.{word_in}
 use Rattle.roster.specs.Words.{is_process_word, is_live_word}
-use Rattle.world_spec.specs.Facts.{KeepsWords, KeepsProcesses, RowStays, suspended_by}
+use Rattle.world_spec.specs.Facts.{code_given, KeepsWords, KeepsProcesses, RowStays, suspended_by}
 use Rattle.world_spec.specs.SeenStep.{ShowsStep}
 use Rattle.world_spec.specs.DecodesLaws.{AreShownTheSame, decodes-stays}
 use Rattle.world_spec.specs.Calm.{AreCalm, IsCalm, CalmProcess, is_plain_call, is_plain}
@@ -66,6 +67,13 @@ plain_writes c s w v e writes = writes
 plain_written : (s : Win32State) (d : Directive) (c : Option Call) (v : ℕ) → is_plain c ≡ true → IsWrittenTo s d c v → ⊥
 plain_written s d None v e written = written
 plain_written s d (Some c) v e written = plain_writes c s written.0 v e written.2
+
+-- it ends none
+plain_endless : (c : Option Call) → is_plain c ≡ true → code_given c ≡ None
+plain_endless None e = refl
+plain_endless (Some (call.Terminate h code)) e = absurd (let f : false ≡ true = e in cc)
+plain_endless (Some (call.ExitSelf code)) e = absurd (let f : false ≡ true = e in cc)
+plain_endless (Some c) e = refl
 
 -- nor is it one of those that the discipline speaks of
 is_no_create : (c : Option Call) → is_plain c ≡ true → is_create c ≡ true → ⊥
@@ -107,10 +115,12 @@ module _ {A : Type 0} (step : HistoryStep A) (calm : AreCalm step.before.win32 s
       ap (λ o. handle_of (handles_of o) h) at.2
       ∙ at.4.handles h names (ap (λ o. handle_of (handles_of o) h) (sym at.3) ∙ named)
 
-  -- So the facts of processes hold, whatever becomes of the words, where the call writes no other process's bytes.
+  -- So the facts of processes hold, whatever becomes of the words, where the call writes no other process's bytes and
+  -- ends none.
   pub processes-kept : ((v : ℕ) → IsWrittenTo step.before.win32 step.entry.directive step.entry.call v → ⊥)
-      → KeepsProcesses step
-  processes-kept unwritten = record {
+      → code_given step.entry.call ≡ None → KeepsProcesses step
+  processes-kept unwritten endless = record {
+    codes = λ code given. absurd (let e = sym endless ∙ given in cc);
     low_handles = λ v h names few named live. still_named v h names named live;
     own_handles = λ v h names named live other. still_named v h names named live;
     roster_handles = λ v names live named.
@@ -161,7 +171,8 @@ module _ {A : Type 0} (script : Script) (step : HistoryStep A) (calm : IsCalm st
     facts = record {
       words = words-kept step calm.words plain;
       processes = processes-kept step calm.processes
-          (λ v written. plain_written step.before.win32 step.entry.directive step.entry.call v plain written);
+          (λ v written. plain_written step.before.win32 step.entry.directive step.entry.call v plain written)
+          (plain_endless step.entry.call plain);
       host = host;
     };
   }

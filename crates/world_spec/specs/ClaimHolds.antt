@@ -30,6 +30,7 @@ use Rattle.roster.specs.declared.claim.Claim.TheVariants as claim
 use Rattle.roster.specs.RosterChanges.{ChangesMain}
 use Rattle.roster.specs.Turns.{by_word}
 use Rattle.roster.specs.Words.{changed_word, is_live_word}
+use Rattle.world_spec.specs.Facts.{code_given}
 use Rattle.world_spec.specs.Calm.{IsCalm, AreCalm, is_plain_call, is_plain}
 use Rattle.world_spec.specs.CalmLaws.{processes-kept, calm_shown}
 use Rattle.world_spec.specs.CalmSteps.{calm-acts, calm_process}
@@ -202,7 +203,8 @@ module _ {A : Type 0} (script : Script) (past : List (Seen A)) (now : Moment A) 
       facts = record {
         words = main-kept (step parts) row Hold (may parts);
         processes = processes-kept (step parts) calm
-            (λ v written. subst (λ c. IsWriteTo now.win32 written.0 c v) its_call written.2);
+            (λ v written. subst (λ c. IsWriteTo now.win32 written.0 c v) its_call written.2)
+            (ap (λ c. code_given (Some c)) its_call);
         host = λ live. still 1 live;
       };
     }

@@ -4,9 +4,12 @@
 -- proved in `StableFacts`, `StepFacts` and `PostedLaws` of `win32_spec`.
 use Rattle.std.specs.Prelude.{◌≡◌, ◌≢◌, ◌⊎◌, ℕ, ◌+◌, ◌<◌, ◌≤◌, Bool, true, false, Option, Some, None}
 use Rattle.w32_base.specs.Part.{KeepsImage}
+use Rattle.w32_base.specs.declared.call.Call.{Call}
+use Rattle.w32_base.specs.declared.call.Call.TheVariants as call
 use Rattle.win32_spec.specs.State.{Thread, Win32State}
 use Rattle.win32_spec.specs.Lookup.{process_of, thread_of, memory_by}
 use Rattle.win32_spec.specs.Named.{named_by}
+use Rattle.win32_spec.specs.Run.{ended_from_outside}
 use Rattle.win32_spec.specs.Facts.{IsTurnOf, IsTurnOfThread, IsWrittenTo}
 use Rattle.layer_spec.specs.Rows.{ExitWord, MainWord, RowKind, Free, Held, Running, Stopped, Zombie, Gone}
 use Rattle.layer_spec.specs.Decoding.{main_of, main_image, exit_of}
@@ -108,6 +111,12 @@ pub record KeepsWords {A : Type 0} (step : HistoryStep A) : Type 0 where
       ⊎ (main_image (main_at step.after.win32 row) ≢ main_image (main_at step.before.win32 row))
       → Names step row
 
+-- the code with which a call ends a process, its own or another
+abbrev pub code_given : Option Call → Option ℕ
+code_given (Some (call.ExitSelf code)) = Some code
+code_given (Some (call.Terminate h code)) = Some code
+code_given _ = None
+
 -- The facts of processes.
 -- Handles 1 to 8 of a live process, once it has them, name the same for ever, also in its own turns. Every other handle
 -- names the same but in turns of the thread to which it was answered. What a handle 2 names, a handle 2 named before: so
@@ -115,6 +124,7 @@ pub record KeepsWords {A : Type 0} (step : HistoryStep A) : Type 0 where
 -- The bytes of a process are written by another only in turns of its maker, before a main word names it. While none names
 -- it, its own turns leave data, heap and stack alone too. Its threads 1 and 2 leave them alone always.
 -- A thread is suspended and resumed only in turns of its own process, or of its maker before a main word names it.
+-- No call ends a process with the code of an end from outside.
 pub record KeepsProcesses {A : Type 0} (step : HistoryStep A) : Type 0 where
   pub low_handles : (v h names : ℕ) → h ≤ 8 → named_by step.before.win32 v h ≡ Some names
       → is_live_process step.after.win32 v ≡ true → named_by step.after.win32 v h ≡ Some names
@@ -135,6 +145,7 @@ pub record KeepsProcesses {A : Type 0} (step : HistoryStep A) : Type 0 where
   pub suspends : (v t : ℕ) → is_live_process step.before.win32 v ≡ true → is_live_process step.after.win32 v ≡ true
       → (suspended_of step.after.win32 v t ≡ suspended_of step.before.win32 v t)
       ⊎ IsTurnOf step.before.win32 step.entry.directive v ⊎ IsMakersTurn step v
+  pub codes : (code : ℕ) → code_given step.entry.call ≡ Some code → code < ended_from_outside
 
 -- All of them; and the host lives for ever.
 pub record KeepsFacts {A : Type 0} (step : HistoryStep A) : Type 0 where
