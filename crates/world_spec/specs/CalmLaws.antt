@@ -126,12 +126,11 @@ module _ {A : Type 0} (step : HistoryStep A) (calm : AreCalm step.before.win32 s
     roster_handles = λ v names live named.
         let at = was v live in
         let p = calm v at.0 at.2 (let q = live_found (process_of step.after.win32.processes v) live in
-        ap (λ (x : Process). is_alive x.life) (same_some (process_of step.after.win32.processes v) at.0 q.0 at.2 q.1) ∙ q.2) in
-        (
+        ap (λ (x : Process). is_alive x.life) (same_some (process_of step.after.win32.processes v) at.0 q.0 at.2 q.1) ∙ q.2) in (
           v,
           found_live (process_of step.before.win32.processes v) p.0 p.1 p.2,
           ap (λ o. handle_of (handles_of o) roster_handle) p.1 ∙ (sym p.3.roster
-          ∙ (sym (ap (λ o. handle_of (handles_of o) roster_handle) at.2) ∙ named)),
+              ∙ (sym (ap (λ o. handle_of (handles_of o) roster_handle) at.2) ∙ named)),
         );
     writes = λ v written. absurd (unwritten v written);
     unnamed = λ v is acts live. image_kept v live;

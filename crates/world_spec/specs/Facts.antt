@@ -14,9 +14,9 @@ use Rattle.win32_spec.specs.Facts.{IsTurnOf, IsTurnOfThread, IsWrittenTo}
 use Rattle.layer_spec.specs.Rows.{ExitWord, MainWord, RowKind, Free, Held, Running, Stopped, Zombie, Gone}
 use Rattle.layer_spec.specs.Decoding.{main_of, main_image, exit_of}
 use Rattle.layer_spec.specs.Words.{claimed_in, main_at, group_at, exit_at}
-use Rattle.layer_spec.specs.Moment.{HistoryStep}
+use Rattle.layer_spec.specs.Moment.{HistoryStep, seen_with}
 use Rattle.layer_spec.specs.Transitions.{Op, is_op}
-use Rattle.layer_spec.specs.Turns.{is_live_process}
+use Rattle.layer_spec.specs.Turns.{is_live_process, was_ended}
 use Rattle.roster.specs.Roster.{HolderMayRely}
 use Rattle.roster.specs.Turns.{roster_handle}
 use Rattle.roster.specs.Words.{changed_word, is_process_word, is_live_word}
@@ -67,11 +67,13 @@ pub record IsMakersTurn {A : Type 0} (step : HistoryStep A) (v : ℕ) : Type 0 w
   pub unnamed : IsNamed step.before.win32 v → ⊥
 
 -- The main word of a row comes to name a process in this step: in a turn of the main thread of that process's maker. No
--- row named it before, and every other main word stays.
+-- row named it before, and every other main word stays. That process is alive, or an `end` ended it.
 pub record Names {A : Type 0} (step : HistoryStep A) (row : ℕ) : Type 0 where
   pub turn : IsMakersTurn step (main_image (main_at step.after.win32 row))
   pub others : (other : ℕ) → 1 ≤ other → other ≢ row
       → main_at step.after.win32 other ≡ main_at step.before.win32 other
+  pub lives : (is_live_process step.after.win32 (main_image (main_at step.after.win32 row)) ≡ true)
+      ⊎ (was_ended (seen_with step) (main_image (main_at step.after.win32 row)) ≡ true)
 
 -- The facts of the words.
 -- The number of claimed rows never falls and grows by one at most, and whoever claims a row is answered that number and

@@ -41,7 +41,7 @@ module _ {A W P : Type 0} (whole_posted : W → Call) (whole_goes : W → Own �
 
   module _ (past : List (Seen A)) (now : Moment A) (slot t : ℕ) (x : W) (p : P) (called : Call) (reply : Reply)
       (given : Option Event) (next : Option W) (new : Win32State) (sound : IsSoundMoment script past now)
-      (spare : HasSpare script past)      (same : whole_thread x ≡ t) (runs : RunsPiece x p)
+      (spare : HasSpare script past) (same : whole_thread x ≡ t) (runs : RunsPiece x p)
       (turn : OwnTurn whole_posted whole_goes script now.win32 slot t x called reply given next new)
       (stood : whole_clause past now turn.process.number x) where
     abbrev Result : Type 0

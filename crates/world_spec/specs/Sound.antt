@@ -1,5 +1,5 @@
 -- What holds at each moment of a world for everybody, so that no part's clause need say it.
-use Rattle.std.specs.Prelude.{◌≡◌, ℕ, ◌+◌, ◌<◌, ◌≤◌, true, List, length, Some}
+use Rattle.std.specs.Prelude.{◌≡◌, ℕ, ◌+◌, ◌<◌, ◌≤◌, true, List, length, Some, false}
 use Rattle.script_spec.specs.declared.script.Script.{Script}
 use Rattle.tty_spec.specs.Terminal.{Terminal}
 use Rattle.win32_spec.specs.Named.{named_by, object_by}
@@ -8,7 +8,7 @@ use Rattle.win32_spec.specs.WellFormed.{IsWellFormed}
 use Rattle.layer_spec.specs.Decodes.{Decodes}
 use Rattle.layer_spec.specs.Decoding.{main_image}
 use Rattle.layer_spec.specs.Moment.{Moment, Seen}
-use Rattle.layer_spec.specs.Turns.{is_live_process}
+use Rattle.layer_spec.specs.Turns.{is_live_process, was_ended}
 use Rattle.layer_spec.specs.Words.{claimed_in, main_at, group_at, exit_at}
 use Rattle.roster.specs.Turns.{roster_handle}
 use Rattle.roster.specs.Words.{is_live_word}
@@ -27,7 +27,8 @@ pub record IsBlankRow (s : Win32State) (row : ℕ) : Type 0 where
   pub exit : exit_at s row ≡ 0
 
 -- The rows as a whole. There are not more claimed ones than entries, and one. Those that nobody claimed are blank. A row
--- that was claimed is among the claimed ones, and was claimed by one process. Two live rows name two images.
+-- that was claimed is among the claimed ones, and was claimed by one process. Two live rows name two images. Where the
+-- image of a live row has ended, an `end` ended it.
 pub record AreRowsSound {A : Type 0} (past : List (Seen A)) (s : Win32State) : Type 0 where
   pub few : claimed_in s ≤ length past + 1
   pub blank : (row : ℕ) → claimed_in s < row → IsBlankRow s row
@@ -35,6 +36,8 @@ pub record AreRowsSound {A : Type 0} (past : List (Seen A)) (s : Win32State) : T
   pub once : (row v w : ℕ) → IsClaimedBy past row v → IsClaimedBy past row w → v ≡ w
   pub apart : (a b : ℕ) → 1 ≤ a → 1 ≤ b → is_live_word (main_at s a) ≡ true → is_live_word (main_at s b) ≡ true
       → main_image (main_at s a) ≡ main_image (main_at s b) → a ≡ b
+  pub ended : (row : ℕ) → 1 ≤ row → is_live_word (main_at s row) ≡ true
+      → is_live_process s (main_image (main_at s row)) ≡ false → was_ended past (main_image (main_at s row)) ≡ true
 
 -- Handle 2 names the same in every live process that has one: the roster mutex.
 abbrev pub HaveOneRoster : Win32State → Type 0

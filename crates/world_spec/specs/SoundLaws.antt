@@ -1,4 +1,18 @@
 -- What holds for everybody at a moment holds after each step that keeps the facts.
+use Rattle.std.proofs.Common.{◌+◌, ◌-◌, MatchOption, subst}
+use Rattle.w32_base.specs.declared.call.Call.{Call}
+use Rattle.w32_base.specs.declared.entry.Outcome.{Outcome}
+use Rattle.win32_spec.specs.Ends.{with_end}
+use Rattle.win32_spec.specs.FormedLaws.{live_found, found_live}
+use Rattle.win32_spec.specs.LookupLaws.{same, or_left, or_right}
+use Rattle.win32_spec.specs.Run.{EndStep, StepBy, ended_from_outside}
+use Rattle.posix_spec.specs.Pending.{is_live}
+use Rattle.posix_spec.specs.State as posix
+use Rattle.posix_spec.specs.State.{Life, Record, PosixState, record_of}
+use Rattle.layer_spec.specs.Decodes.{ShowsRecord, ShowsRow, life_by}
+use Rattle.layer_spec.specs.Discipline.{is_end}
+use Rattle.layer_spec.specs.Turns.{is_live_process, is_end_of, was_ended}
+use Rattle.world_spec.specs.EndLaws.{process-end_stays}
 use Rattle.std.proofs.Common.{◌≡◌, ◌≢◌, ◌⊎◌, inl, inr, ℕ, ◌<◌, ◌≤◌, Bool, true, false, Option, Some}
 use Rattle.std.proofs.Common.{None, nat_eq, refl, sym, ap, ◌∙◌, arith}
 use Rattle.std.proofs.lemmas.Bool.{cases_eq, eqb-true}
@@ -6,7 +20,7 @@ use Rattle.w32_base.specs.declared.entry.Directive.{Directive}
 use Rattle.w32_base.specs.declared.entry.Directive.TheVariants as directive
 use Rattle.script_spec.specs.declared.script.Script.{Script}
 use Rattle.win32_spec.specs.LookupLaws.{and_true}
-use Rattle.win32_spec.specs.Lookup.{process_in}
+use Rattle.win32_spec.specs.Lookup.{process_in, process_of}
 use Rattle.win32_spec.specs.MemoryEffects.{HaveRegisters}
 use Rattle.win32_spec.specs.State.{Process, Win32State}
 use Rattle.layer_spec.specs.Decoding.{main_image, main_of}
@@ -51,6 +65,59 @@ one_turn s (directive.Turn slot x) v w t u e f =
     by_process (Some p) a b = sym (eqb-true p.number v a) ∙ eqb-true p.number w b
 one_turn s (directive.End slot) v w t u e f = absurd (let c : false ≡ true = e in cc)
 one_turn s (directive.Key b) v w t u e f = absurd (let c : false ≡ true = e in cc)
+
+-- a live row has a record that is alive
+live_record : (script : Script) (s : Win32State) (p : PosixState) (row : ℕ) → is_live_word (main_at s row) ≡ true
+    → ShowsRow script (λ q. q.own) s p row
+    → (r : Record) × (record_of p (row + 1) ≡ Some r) × (is_live r.life ≡ true)
+live_record script s p row live h = by_record (record_of p (row + 1)) refl h.shown
+  where
+    is_main : is_live_kind h.main.kind ≡ true
+    is_main = sym (ap is_live_main h.decodes) ∙ live
+
+    by_life : (k : RowKind) (stop status : ℕ) (life : Life) → is_live_kind k ≡ true → life_by k stop status ≡ Some life
+        → is_live life ≡ true
+    by_life Free stop status life a e = absurd (let f : false ≡ true = a in cc)
+    by_life Held stop status life a e = absurd (let f : false ≡ true = a in cc)
+    by_life Running stop status life a e = let f : posix.Running ≡ life = cc in subst (λ x. is_live x ≡ true) f refl
+    by_life Stopped stop status life a e = let f : posix.Stopped stop ≡ life = cc in subst (λ x. is_live x ≡ true) f refl
+    by_life Zombie stop status life a e = absurd (let f : false ≡ true = a in cc)
+    by_life Gone stop status life a e = absurd (let f : false ≡ true = a in cc)
+
+    of_kind : (k : RowKind) → is_live_kind k ≡ true → is_process_kind k ≡ false → ⊥
+    of_kind Running a e = let f : true ≡ false = e in cc
+    of_kind Stopped a e = let f : true ≡ false = e in cc
+    of_kind Free a e = let f : false ≡ true = a in cc
+    of_kind Held a e = let f : false ≡ true = a in cc
+    of_kind Zombie a e = let f : false ≡ true = a in cc
+    of_kind Gone a e = let f : false ≡ true = a in cc
+
+    by_record : (o : Option Record) → record_of p (row + 1) ≡ o
+        → MatchOption o (is_process_kind h.main.kind ≡ false) (λ r. ShowsRecord script (λ q. q.own) s p row h.main r)
+        → (r : Record) × (record_of p (row + 1) ≡ Some r) × (is_live r.life ≡ true)
+    by_record None e m = absurd (of_kind h.main.kind is_main m)
+    by_record (Some r) e m = (r, e, by_life h.main.kind h.main.stop h.main.status r.life is_main m.life)
+
+-- an `end` ends one process, and its outcome tells which
+end_ends : (script : Script) (s : Win32State) (d : Directive) (called : Option Call) (came : Outcome) (new : Win32State)
+    (v : ℕ) → StepBy script s d called came new → is_end d ≡ true → is_live_process s v ≡ true
+    → is_live_process new v ≡ false → is_end_of came v ≡ true
+end_ends script s (directive.Turn slot t) called came new v step e alive dead = absurd (let f : false ≡ true = e in cc)
+end_ends script s (directive.Key b) called came new v step e alive dead = absurd (let f : false ≡ true = e in cc)
+end_ends script s (directive.End slot) called came new v step e alive dead =
+    by_answer (process_in s.processes slot) step.1
+  where
+    by_answer : (o : Option Process) → EndStep s o came new → is_end_of came v ≡ true
+    by_answer None m = absurd (let f : true ≡ false = sym alive ∙ (sym (ap (λ n. is_live_process n v) m.1) ∙ dead) in cc)
+    by_answer (Some p) m = elim (cases_eq v p.number) [
+      | inl n ↦ ap (λ o. is_end_of o v) m.0 ∙ same p.number v (sym n)
+      | inr d ↦ absurd (
+          let q = live_found (process_of s.processes v) alive in
+          let stays = process-end_stays s p.number ended_from_outside v q.0 q.1 q.2 d in
+          let lives : is_live_process new v ≡ true = ap (λ n. is_live_process n v) m.1
+          ∙ found_live (process_of (with_end s p.number ended_from_outside).processes v) q.0 stays q.2 in
+          let f : true ≡ false = sym lives ∙ dead in cc)
+    ]
 
 module _ {A : Type 0} (script : Script) (step : HistoryStep A) (registers : HaveRegisters script)
     (seen : IsSeenStep script step) where
@@ -121,6 +188,53 @@ module _ {A : Type 0} (script : Script) (step : HistoryStep A) (registers : Have
     ]
   ]
 
+  -- where a live row's image ends in a step, the step is the `end` that ended it
+  ends_here : (row : ℕ) → 1 ≤ row → is_live_word (main_at step.before.win32 row) ≡ true
+      → is_live_process step.before.win32 (main_image (main_at step.before.win32 row)) ≡ true
+      → is_live_process step.after.win32 (main_image (main_at step.before.win32 row)) ≡ false
+      → is_end_of step.entry.outcome (main_image (main_at step.before.win32 row)) ≡ true
+  ends_here row from live alive dead =
+      by_test (is_end step.entry.directive) refl
+    where
+      by_test : (b : Bool) → is_end step.entry.directive ≡ b
+          → is_end_of step.entry.outcome (main_image (main_at step.before.win32 row)) ≡ true
+      by_test true e = end_ends script step.before.win32 step.entry.directive step.entry.call step.entry.outcome
+          step.after.win32 (main_image (main_at step.before.win32 row)) seen.win32 e alive dead
+      by_test false e =
+          let r = live_record script step.before.win32 step.before.posix row live (seen.before.decodes.rows row from) in
+          let same : row + 1 - 1 ≡ row = omega arith in
+          let lives = seen.shows.discipline.lives e (row + 1) r.0 r.1 r.2
+          (subst (λ k. is_live_process step.before.win32 (main_image (main_at step.before.win32 k)) ≡ true) (sym same)
+          alive) in
+          let after = subst (λ k. is_live_process step.after.win32 (main_image (main_at step.before.win32 k)) ≡ true) same
+          lives in
+          absurd (let f : true ≡ false = sym after ∙ dead in cc)
+
+  ended_after : (row : ℕ) → 1 ≤ row → is_live_word (main_at step.after.win32 row) ≡ true
+      → is_live_process step.after.win32 (main_image (main_at step.after.win32 row)) ≡ false
+      → was_ended (seen_with step) (main_image (main_at step.after.win32 row)) ≡ true
+  ended_after row from live dead = elim (comes_to row from live) [
+    | inl was ↦
+        let gone = subst (λ k. is_live_process step.after.win32 k ≡ false) was.1 dead in
+        subst (λ k. was_ended (seen_with step) k ≡ true) (sym was.1) (by_test was.0 gone
+        (is_live_process step.before.win32 (main_image (main_at step.before.win32 row))) refl)
+    | inr names ↦ elim names.lives [
+      | inl alive ↦ absurd (let f : true ≡ false = sym alive ∙ dead in cc)
+      | inr ended ↦ ended
+    ]
+  ]
+    where
+      by_test : is_live_word (main_at step.before.win32 row) ≡ true
+          → is_live_process step.after.win32 (main_image (main_at step.before.win32 row)) ≡ false → (b : Bool)
+          → is_live_process step.before.win32 (main_image (main_at step.before.win32 row)) ≡ b
+          → was_ended (seen_with step) (main_image (main_at step.before.win32 row)) ≡ true
+      by_test was gone true e =
+          or_left (is_end_of step.entry.outcome (main_image (main_at step.before.win32 row)))
+          (was_ended step.past (main_image (main_at step.before.win32 row))) (ends_here row from was e gone)
+      by_test was gone false e =
+          or_right (is_end_of step.entry.outcome (main_image (main_at step.before.win32 row)))
+          (was_ended step.past (main_image (main_at step.before.win32 row))) (rows.ended row from was e)
+
   one_roster : HaveOneRoster step.after.win32
   one_roster v w m n live_v live_w named_v named_w =
       let a = seen.shows.facts.processes.roster_handles v m live_v named_v in
@@ -138,6 +252,7 @@ module _ {A : Type 0} (script : Script) (step : HistoryStep A) (registers : Have
     within = within_after;
     once = once_after;
     apart = apart_after;
+    ended = ended_after;
   }
 
   pub sound-step : IsSoundMoment script (seen_with step) step.after

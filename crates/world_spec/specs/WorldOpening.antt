@@ -27,6 +27,8 @@ use Rattle.layer_spec.specs.OpeningHistory.{opening_is_history}
 use Rattle.layer_spec.specs.OpeningLaws.{zero_at, decodes_at_opening}
 use Rattle.layer_spec.specs.Rows.{main_place, group_place, exit_place}
 use Rattle.layer_spec.specs.Words.{main_at}
+use Rattle.layer_spec.specs.Decoding.{main_image}
+use Rattle.std.specs.Prelude.{◌*◌, ◌+◌, ◌^◌}
 use Rattle.roster.specs.Words.{is_live_word}
 use Rattle.world_spec.specs.Owes.{OwesWorld}
 use Rattle.world_spec.specs.Sound.{IsHosted, IsBlankRow, AreRowsSound, HaveOneRoster}
@@ -64,6 +66,10 @@ later_word (suc zero) l = absurd (omega (arith, l))
 later_word (suc (suc zero)) l = absurd (omega (arith, l))
 later_word (suc (suc (suc k))) l = zero_at 11998 k
 
+first_word : slice_index_or opening_words 1 0 ≡ 2 * 2 ^ 50 + 2 * 2 ^ 31
+unfolding opening_words
+first_word = refl
+
 one_claimed : slice_index_or opening_words 0 0 ≡ 1
 unfolding opening_words
 one_claimed = refl
@@ -78,6 +84,7 @@ rows-opening script s h = subst (AreRowsSound []) (sym h.state) (record {
   apart = λ a b from_a from_b live_a live_b same.
       let one_a = only_first a from_a live_a in
       let one_b = only_first b from_b live_b in one_a ∙ sym one_b;
+  ended = λ row from live dead. absurd (first_lives row (only_first row from live) dead);
 })
   where
     first : Win32State
@@ -89,6 +96,16 @@ rows-opening script s h = subst (AreRowsSound []) (sym h.state) (record {
       group = later_word (group_place row) (omega (arith, above));
       exit = later_word (exit_place row) (omega (arith, above));
     }
+
+    first_lives : (row : ℕ) → row ≡ 1
+        → is_live_process (opening h.numbers h.program h.placed)
+        (main_image (main_at (opening h.numbers h.program h.placed) row)) ≡ false → ⊥
+    first_lives row one dead =
+        let image : main_image (main_at (opening h.numbers h.program h.placed) row) ≡ 2 =
+        ap (λ k. main_image (main_at (opening h.numbers h.program h.placed) k)) one ∙ ap main_image first_word in
+        let f : is_live_process (opening h.numbers h.program h.placed) 2 ≡ false =
+        subst (λ k. is_live_process (opening h.numbers h.program h.placed) k ≡ false) image dead in
+        let g : true ≡ false = f in cc
 
     only_first : (row : ℕ) → 1 ≤ row → is_live_word (main_at (opening h.numbers h.program h.placed) row) ≡ true → row ≡ 1
     only_first row from live = elim (cases_eq row 1) [
