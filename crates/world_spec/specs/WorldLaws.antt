@@ -65,7 +65,8 @@ module _ {A : Type 0} (posted_of : A → Call) (goes : A → Own → Setup → R
       PartFollows posted_of goes opening slot_of thread_of_part now.win32 new.win32 now.parts new.parts slot t
 
   -- A turn of a thread that is ready.
-  module _ (slot t : ℕ) (spare : HasSpare script past) (ready : is_ready now.win32 slot t ≡ true) (call : Call) (reply : Reply) (new : DrivenState A)
+  module _ (slot t : ℕ) (spare : HasSpare script past) (ready : is_ready now.win32 slot t ≡ true) (call : Call)
+      (reply : Reply) (new : DrivenState A)
       (of : DrivenTurn posted_of goes opening slot_of thread_of_part script now.win32 now.parts slot t call reply new.last
       new.win32 new.parts) where
     abbrev w : ℕ
