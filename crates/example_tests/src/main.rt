@@ -8,7 +8,7 @@ mod outcome;
 mod tests;
 
 use anyhow::Result;
-use outcome::{Outcome, outcome_of, verdict_of};
+use outcome::{Outcome, outcome_of};
 use std::process::ExitCode;
 use std::rt::Files;
 use std::{env, fs};
@@ -20,8 +20,14 @@ const DIFFERS: u8 = 1;
 /// NAME.log.
 const RUNS: [(&str, u8); 4] = [("first", 0), ("absent", 0), ("budget", 6), ("two_forks", 3)];
 
-/// The texts of a script and a log that are judged. The verdict on NAME.trace is NAME.verdict.
-const TRACES: [&str; 4] = ["reaped", "reaped_twice", "interrupt", "no_place"];
+/// The texts of a script and a log that are judged with the word `check`, each with the status of the verdict. The
+/// verdict on NAME.trace is NAME.verdict.
+const TRACES: [(&str, u8); 4] = [
+    ("reaped", 0),
+    ("reaped_twice", 1),
+    ("interrupt", 0),
+    ("no_place", 3),
+];
 
 fn main(rt: HostRuntime) -> Result<ExitCode> {
     let folder = match env::args(&rt)?.nth(1) {
@@ -45,10 +51,14 @@ fn main(rt: HostRuntime) -> Result<ExitCode> {
     };
     let made = outcome_of(rt.alloc(), &["make", "2"], Vec::new(rt.alloc()))?;
     are_same &= report(&rt, "make 2", made.is(&wanted))?;
-    for name in TRACES {
-        let verdict = verdict_of(rt.alloc(), &file(&rt, folder, name, "trace")?)?;
-        let wanted = file(&rt, folder, name, "verdict")?;
-        are_same &= report(&rt, name, verdict.as_bytes() == wanted.as_slice())?;
+    for (name, status) in TRACES {
+        let trace = file(&rt, folder, name, "trace")?;
+        let wanted = Outcome {
+            status,
+            output: file(&rt, folder, name, "verdict")?,
+        };
+        let verdict = outcome_of(rt.alloc(), &["check"], trace)?;
+        are_same &= report(&rt, name, verdict.is(&wanted))?;
     }
     Ok(ExitCode::from(if are_same { 0 } else { DIFFERS }))
 }

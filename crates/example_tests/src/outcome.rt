@@ -1,8 +1,6 @@
 //! What comes of an example.
 
-use anyhow::{Result, bail};
 use cyg_cli::{MemSink, MemSource, run_top};
-use run_check::{Judged, MOST_EVENTS, Verdict, judge};
 use std::alloc::{AllocError, Global};
 
 /// How many bytes the output of an example has at the most.
@@ -36,20 +34,5 @@ pub fn outcome_of(alloc: Global, words: &[&str], script: Vec<u8>) -> Result<Outc
     Ok(Outcome {
         status: answer.status.get(),
         output: sink.contents().to_vec(alloc)?,
-    })
-}
-
-/// The line that says what a text of a script and a log is.
-pub fn verdict_of(alloc: Global, text: &[u8]) -> Result<String> {
-    if text.len() > MOST_EVENTS {
-        bail!("the text is too long");
-    }
-    Ok(match judge(alloc, text)? {
-        Judged::ScriptFault { line, kind } => format!(in alloc; "fault {line} {kind:?}\n")?,
-        Judged::LogFault { line } => format!(in alloc; "logfault {line}\n")?,
-        Judged::Verdict(Verdict::Yes) => String::from_str(alloc, "yes\n")?,
-        Judged::Verdict(Verdict::No { line, rule }) => {
-            format!(in alloc; "no {line} {}\n", rule.as_str())?
-        }
     })
 }

@@ -1,8 +1,6 @@
 //! The largest inputs: there is memory for them.
 
-use crate::outcome::{outcome_of, verdict_of};
-use cyg_cli::CleanSource;
-use cyg_io::read_all;
+use crate::outcome::outcome_of;
 use std::alloc::{AllocError, Global};
 use std::test::Fail;
 
@@ -79,15 +77,18 @@ fn the_largest_script_is_read(rt: HostRuntime) -> Result<(), Fail> {
     let script = large_script(rt.alloc())?;
     assert!(rt; script.len() <= MOST_SCRIPT && script.len() + COMMENT.len() > MOST_SCRIPT);
     // The script has no fault, and the log that is wanting has one.
-    assert_eq!(rt; verdict_of(rt.alloc(), &script)?.as_str(), "logfault 1\n");
+    let outcome = outcome_of(rt.alloc(), &["check"], script)?;
+    assert_eq!(rt; outcome.status, 3);
+    assert_eq!(rt; outcome.output.as_slice(), b"logfault 1\n".as_slice());
     Ok(())
 }
 
 #[test]
-fn the_largest_text_is_read_and_judged(rt: HostRuntime) -> Result<(), Fail> {
+fn the_largest_text_is_judged(rt: HostRuntime) -> Result<(), Fail> {
     let text = large_text(rt.alloc())?;
     assert!(rt; text.len() <= MOST_TEXT && text.len() + WRITE.len() > MOST_TEXT);
-    let read = read_all(rt.alloc(), &mut CleanSource::new(text), MOST_TEXT)?;
-    assert_eq!(rt; verdict_of(rt.alloc(), &read)?.as_str(), "no 2 write\n");
+    let outcome = outcome_of(rt.alloc(), &["check"], text)?;
+    assert_eq!(rt; outcome.status, 1);
+    assert_eq!(rt; outcome.output.as_slice(), b"no 2 write\n".as_slice());
     Ok(())
 }
