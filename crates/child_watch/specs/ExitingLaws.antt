@@ -1,5 +1,6 @@
 -- The end of a process comes to its last step.
-use Rattle.std.specs.Prelude.{◌≡◌, ℕ, ◌+◌, ◌-◌, ◌*◌, ◌<◌, ◌≤◌, pos, Bool, true, false, ◌&&◌, not, nat_eq, nat_lt, List, length, Option, Some, None}
+use Rattle.std.specs.Prelude.{◌≡◌, ℕ, ◌+◌, ◌-◌, ◌*◌, ◌<◌, ◌≤◌, pos, Bool, true, false, ◌&&◌, not, nat_eq, nat_lt}
+use Rattle.std.specs.Prelude.{List, length, Option, Some, None}
 use Rattle.std.proofs.Common.{refl, sym, ap, ◌∙◌, arith}
 use Rattle.std.proofs.lemmas.Bool.{cond_both, ltb-true}
 use Rattle.w32_base.specs.declared.call.Reply.{Reply}
@@ -32,7 +33,8 @@ use Rattle.child_watch.specs.CollectLaws.{gather_lowers}
 use Rattle.child_watch.specs.Ending.{status_of, death_of}
 use Rattle.child_watch.specs.Exiting.{exit_step_posted, exit_posted, is_listed, row_if, listed_child, exit_marked}
 use Rattle.child_watch.specs.Exiting.{exit_seals, exit_looked, exit_sealed, exit_child, exit_children, exit_holds}
-use Rattle.child_watch.specs.Exiting.{exit_gathers, exit_grouped, exit_parent, exit_itself, exit_lets, exit_step_after}
+use Rattle.child_watch.specs.Exiting.{exit_gathers, exit_grouped, exit_parent, exit_itself, exit_lets}
+use Rattle.child_watch.specs.Exiting.{exit_step_after}
 use Rattle.child_watch.specs.Exiting.{exit_after, exit_step_rank, exit_rank}
 
 -- what is asked of a turn of a step of this rank

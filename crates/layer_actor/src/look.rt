@@ -10,7 +10,8 @@ ghost use Rattle.layer_turns.specs.OwnTurns.{OwnTurn};
 ghost use Rattle.pinfo_word.specs.Shown.{shown_main};
 ghost use Rattle.proc_vm.specs.Shown.{shown, instr_of};
 ghost use Rattle.roster.specs.Turns.{section_handle};
-ghost use Rattle.layer_actor.specs.Doing.{begins, begins_call, begins_getpid, begins_kill, code_in, has_regions, is_free, look_by, look_after};
+ghost use Rattle.layer_actor.specs.Doing.{begins, begins_call, begins_getpid, begins_kill, code_in, has_regions};
+ghost use Rattle.layer_actor.specs.Doing.{is_free, look_by, look_after};
 
 use crate::doing::Doing;
 use crate::gets::Asked;

@@ -1,6 +1,7 @@
 -- A turn of a part that may change its process's bytes: which part it is then, the bytes, and the event that stands in
 -- the turn. And the results of a program's calls.
-use Rattle.std.specs.Prelude.{◌≡◌, ℕ, ◌<◌, ℤ, false, Bool, ◌&&◌, nat_eq, nat_lt, if◌then◌else◌, length, Option, Some, None}
+use Rattle.std.specs.Prelude.{◌≡◌, ℕ, ◌<◌, ℤ, false, Bool, ◌&&◌, nat_eq, nat_lt, if◌then◌else◌, length, Option, Some}
+use Rattle.std.specs.Prelude.{None}
 use Rattle.w32_base.specs.declared.call.Call.{Call}
 use Rattle.w32_base.specs.declared.call.Reply.{Reply}
 use Rattle.w32_base.specs.declared.event.Event.{Event}
