@@ -1,0 +1,154 @@
+//! A machine on which tests try calls: each thread may post any call at any time, and takes a turn at once.
+
+ghost use Rattle.std.specs.Prelude.{◌≡◌, ◌≤◌, ◌<◌, length, [], IsSome};
+ghost use Rattle.script_spec.specs.Validity.{IsValid};
+
+use cyg_script::{ScriptError, read_script};
+use script_spec::{Lines, ScheduleLine};
+use std::alloc::{AllocGlobal, Global};
+use std::marker::Model;
+use std::process::Abort;
+use w32_base::{Call, Directive, HandleList, HandleNo, Reply, Slot, ThreadNo, WinNo};
+use w32_machine::{Machine, Turned};
+
+/// How many turns a test may take at most.
+const MOST_TURNS: u32 = 1_000_000;
+
+/// The machine.
+#[derive(Drop)]
+pub struct Stage {
+    machine: Machine,
+    // how many turns were taken
+    turns: u32,
+}
+
+impl Model for Stage {
+    ghost use Rattle.w32_machine.specs.Running.{Running};
+    ghost use Rattle.machine_tests.specs.Staged.{IsStaged};
+
+    ghost Value = { Running };
+
+    ghost view = { λ s. s.machine };
+
+    ghost invariant = { λ s. IsStaged s.turns s.machine };
+}
+
+impl Stage {
+    /// The machine at the beginning of a run of the script of a text, with all keys of its schedule typed.
+    pub fn open(alloc: Global, text: &[u8]) -> Result<Stage, ScriptError> {
+        let script = read_script(alloc, text)?;
+        let mut opened = Stage {
+            machine: Machine::open(alloc, &script)?,
+            turns: 0,
+        };
+        opened.type_keys(&script.directives);
+        Ok(opened)
+    }
+
+    // Each key of the schedule goes to the console's queue.
+    fn type_keys(&mut self, lines: &Lines)
+        requires script { lines.now ≡ self.old.script.directives }
+        requires none { self.old.win32.keys ≡ [] }
+    {
+        for place in 0..lines.len() {
+            if let Some(ScheduleLine::Given(Directive::Key(b))) = lines.get(place) {
+                self.machine.key(b);
+            }
+        }
+    }
+
+    /// A thread posts a call and takes a turn: the reply, or none where there is no such thread or it isn't ready.
+    pub fn call(&mut self, slot: u8, thread: u8, call: Call) -> Option<Reply> {
+        let (slot, thread) = (Slot::try_new(slot)?, ThreadNo::try_new(thread)?);
+        self.post(slot, thread, call);
+        self.turn(slot, thread)
+    }
+
+    // A thread posts a call, where there is such a thread.
+    fn post(&mut self, slot: Slot, thread: ThreadNo, call: Call) {
+        if self.machine.in_slot(slot).is_some() && (slot.get() > 0 || thread.get() < 2) {
+            self.machine.post(slot, thread, call);
+        }
+    }
+
+    // A thread takes a turn.
+    fn turn(&mut self, slot: Slot, thread: ThreadNo) -> Option<Reply> {
+        if self.turns >= MOST_TURNS {
+            return None;
+        }
+        let turned = self.machine.turn(slot, thread);
+        self.turns += 1;
+        match turned {
+            Turned::Idle => None,
+            Turned::Done(reply) => Some(reply),
+        }
+    }
+
+    /// The byte of the heap of the process in a slot.
+    pub fn heap_byte(&self, slot: u8, place: usize) -> Option<u8> {
+        self.machine.own(Slot::try_new(slot)?)?.heap.get(place)
+    }
+
+    /// The process in a slot ends from outside.
+    pub fn end(&mut self, slot: u8) -> Option<WinNo> {
+        if slot == 0 {
+            return None;
+        }
+        self.machine.end(Slot::try_new(slot)?)
+    }
+
+    /// The main thread of a slot makes a call, which answers so.
+    pub fn says<R: Abort>(&mut self, rt: &R, slot: u8, call: Call, reply: Reply) {
+        assert_eq!(rt; self.call(slot, 0, call), Some(reply), "{call:?}");
+    }
+
+    /// Process 2 makes process 3 in slot 2, with these handles, as its own handle of this number, and lets it run.
+    pub fn makes<R: Abort>(&mut self, rt: &R, number: u8, listed: &[u8]) {
+        let made = Reply::Made(handle(number), WinNo::new(3));
+        self.says(rt, 1, Call::Create(0, handles(listed)), made);
+        self.says(rt, 1, Call::Resume(handle(number), 0), Reply::Count(1));
+    }
+
+    /// The main thread of a slot makes a call, and isn't ready.
+    pub fn waits<R: Abort>(&mut self, rt: &R, slot: u8, call: Call) {
+        assert_eq!(rt; self.call(slot, 0, call), None, "{call:?}");
+    }
+}
+
+/// The machine at the beginning of a run of the script of a text.
+pub fn open_stage<R: AllocGlobal + Abort>(rt: &R, text: &[u8]) -> Stage {
+    match Stage::open(rt.alloc(), text) {
+        Ok(opened) => opened,
+        Err(fault) => panic!(rt; "{fault}"),
+    }
+}
+
+/// A script of two slots, whose program has 64 bytes of heap.
+pub const TWO_SLOTS: &[u8] =
+    b"cygscript 1\nslots 2\nrows 4\nbudget 1\nprogram main heap 64 stack 64\ngetpid\nschedule\nsettle\n";
+
+/// The machine in which process 2 has made process 3, by its handle 4, with a handle on the section.
+pub fn open_pair<R: AllocGlobal + Abort>(rt: &R) -> Stage {
+    let mut m = open_stage(rt, TWO_SLOTS);
+    m.makes(rt, 4, &[1]);
+    m
+}
+
+/// A handle.
+pub fn handle(number: u8) -> HandleNo {
+    match HandleNo::try_new(number) {
+        Some(handle) => handle,
+        None => HandleNo::new(64),
+    }
+}
+
+/// A list of handles.
+pub fn handles(numbers: &[u8]) -> HandleList {
+    let mut list = HandleList::new();
+    for number in numbers {
+        if list.len() < 40 {
+            list.push(handle(*number));
+        }
+    }
+    list
+}
