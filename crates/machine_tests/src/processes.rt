@@ -69,7 +69,7 @@ fn helper_threads_start_suspended(rt: HostRuntime) {
 #[test]
 fn a_count_stays_at_most_100(rt: HostRuntime) {
     let mut m = open_pair(&rt);
-    for count in 0..100 {
+    for count in 1..100 {
         m.says(&rt, 1, Call::Suspend(handle(4), 2), Reply::Count(count));
     }
     m.says(&rt, 1, Call::Suspend(handle(4), 2), Reply::Count(100));
