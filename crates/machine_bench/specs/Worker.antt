@@ -1,5 +1,5 @@
 -- The meaning of the part of a thread.
-use Rattle.std.specs.Prelude.{◌≡◌, ◌≢◌, ℕ, Bool, true, ◌&&◌, nat_eq, nat_lt, if◌then◌else◌, [], ◌∷◌, Option}
+use Rattle.std.specs.Prelude.{◌≡◌, ◌≢◌, ℕ, Bool, true, ◌&&◌, nat_eq, nat_lt, if◌then◌else◌, [], ◌∷◌, Option, None}
 use Rattle.w32_base.specs.declared.call.Call.{Call}
 use Rattle.w32_base.specs.declared.call.Call.TheVariants as call
 use Rattle.w32_base.specs.declared.event.Event.{Event}
@@ -37,9 +37,9 @@ next_at main step.Waiting = step.Waiting
 
 -- setting a result stands in the turn as an event
 abbrev pub TellsAt : Step → Option Event → Type 0
-TellsAt step.Loading event = Unit {0}
+TellsAt step.Loading event = event ≡ None
 TellsAt step.Setting event = is_progress event ≡ true
-TellsAt step.Waiting event = Unit {0}
+TellsAt step.Waiting event = event ≡ None
 
 -- what a turn may do
 pub record WorkerGoes (p : Worker) (old : Own) (q : Worker) (new : Own) (answer : After) : Type 0 where

@@ -20,7 +20,9 @@ lowers_at step.Setting main r a told keeps =
         ap (λ b. (b || is_wait (posted_at step.Setting)) || is_lost_exchange (posted_at step.Setting) r) (sym told)
         ∙ keeps in
     absurd (cc)
-lowers_at step.Waiting main r a told keeps = let never : true ≡ false = keeps in absurd (cc)
+lowers_at step.Waiting main r a told keeps =
+    let never : true ≡ false = ap (λ e. may_keep_rank (posted_at step.Waiting) r e) (sym told) ∙ keeps in
+    absurd (cc)
 
 pub worker_lowers : (p q : Worker) (o n : Own) (r : Reply) (a : After) → WorkerGoes p o q n a
     → may_keep_rank (worker_posted p) r a.event ≡ false → worker_rank q < worker_rank p
@@ -38,9 +40,14 @@ worker_is_never_done p = positive p.step
     positive step.Setting = omega arith
     positive step.Waiting = omega arith
 
+abbrev worker_of : ℕ → ℕ → Step → Worker
+worker_of slot thread at = record { slot = slot; thread = thread; step = at }
+
 pub worker_is_one : (p q : Worker) → p.step ≡ step.Loading → q.step ≡ step.Loading → p.slot ≡ q.slot
     → p.thread ≡ q.thread → p ≡ q
-worker_is_one p q a b c d = cc
+worker_is_one p q loads begins slot thread =
+    ap (λ x. worker_of x p.thread p.step) slot ∙ ap (λ x. worker_of q.slot x p.step) thread
+    ∙ ap (λ x. worker_of q.slot q.thread x) (loads ∙ sym begins)
 
 pub worker_begins : (p : Worker) → p.step ≡ step.Loading → worker_posted p ≡ Load 1 0
 worker_begins p e = ap posted_at e

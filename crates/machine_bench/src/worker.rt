@@ -87,6 +87,8 @@ impl Part for Worker {
 }
 
 impl Whole for Worker {
+    ghost use Rattle.std.specs.Prelude.{◌≡◌};
+    ghost use Rattle.machine_bench.specs.declared.worker.Step.TheVariants.{Loading};
     ghost use Rattle.machine_bench.specs.WorkerLaws.{worker_is_never_done, worker_is_one, worker_begins, worker_stays};
     ghost use Rattle.machine_bench.specs.WorkerLaws.{worker_keeps_image, worker_ignores_image};
 
@@ -94,7 +96,7 @@ impl Whole for Worker {
 
     ghost thread_of = { λ p. p.thread };
 
-    ghost opening = { λ p. p.step ≡ Rattle.machine_bench.specs.declared.worker.Step.TheVariants.Loading };
+    ghost opening = { λ p. p.step ≡ Loading };
 
     ghost is_never_done = { worker_is_never_done };
 

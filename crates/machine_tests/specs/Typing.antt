@@ -1,0 +1,14 @@
+-- The keys of a schedule, put into the console's queue one after another.
+use Rattle.std.proofs.Common.{◌≡◌, ◌∙◌, ℕ, zero, suc, ◌+◌, ◌≤◌, List, [], ◌∷◌, Some, take, slice_get, refl, sym, ap, arith}
+use Rattle.script_spec.specs.declared.script.ScheduleLine.{ScheduleLine}
+use Rattle.w32_machine.specs.Contract.{keys_of_line, key_lines}
+
+-- the lines up to one and the rest give as many keys as all
+pub key_lines-take : (lines : List ScheduleLine) (n : ℕ) (line : ScheduleLine) → slice_get lines n ≡ Some line
+    → (key_lines (take (n + 1) lines) ≡ key_lines (take n lines) + keys_of_line line)
+    × (key_lines (take n lines) + keys_of_line line ≤ key_lines lines)
+key_lines-take [] n line e = absurd (cc)
+key_lines-take (x ∷ lines) zero line e = let same : x ≡ line = cc in
+    (omega (arith, ap keys_of_line same), omega (arith, ap keys_of_line same))
+key_lines-take (x ∷ lines) (suc n) line e = let rest = key_lines-take lines n line e in
+    (omega (arith, rest.0), omega (arith, rest.1))
