@@ -1,6 +1,6 @@
 -- A machine of which is known how many turns it took at most: each turn and each post is allowed again.
-use Rattle.std.proofs.Common.{◌≡◌, ◌∙◌, ℕ, zero, suc, ◌+◌, ◌≤◌, Option, Some, None, IsSome, List, [], ◌∷◌, refl, sym, ap}
-use Rattle.std.proofs.Common.{subst, arith}
+use Rattle.std.proofs.Common.{◌≡◌, ◌⊎◌, inl, inr, ◌∙◌, ℕ, zero, suc, ◌+◌, ◌≤◌, Bool, true, false, nat_eq, if◌then◌else◌}
+use Rattle.std.proofs.Common.{Option, Some, None, IsSome, List, [], ◌∷◌, refl, sym, ap, subst, arith}
 use Rattle.w32_base.specs.declared.call.Call.{Call}
 use Rattle.w32_base.specs.declared.call.Reply.{Reply}
 use Rattle.w32_base.specs.declared.entry.Directive.TheVariants as directive
@@ -16,7 +16,7 @@ use Rattle.win32_spec.specs.Run.{PostedStep, EndStep, CarriesOut, Posts, StepBy,
 use Rattle.win32_spec.specs.WellFormed.{AreThreads, IsFormed, IsWellFormed}
 use Rattle.win32_spec.specs.FormedLaws.{of_live}
 use Rattle.win32_spec.specs.KeepLaws.{wellformed-effect}
-use Rattle.win32_spec.specs.LookupLaws.{process_in-found}
+use Rattle.win32_spec.specs.LookupLaws.{same, process_in-found}
 use Rattle.win32_spec.specs.MemoryEffects.{HaveRegisters}
 use Rattle.win32_spec.specs.OpeningLaws.{wellformed-opening}
 use Rattle.win32_spec.specs.StepLaws.{acting, posted_tame, wellformed-key, wellformed-step}
@@ -81,7 +81,7 @@ staged_post turns slot t next old new h there posts same =
   where
     by_thread : (p : Process) (o : Option Thread) → process_in old.win32.processes slot ≡ Some p
         → thread_in p.threads t ≡ o → IsSome o → IsStaged turns new
-    by_thread p None e f some = absurd some
+    by_thread p None e f some = let never : false ≡ true = some in absurd (cc)
     by_thread p (Some x) e f some =
         let at = acting old.script old.win32 slot t p x h.formed.formed (record { process = e; thread = f }) in
         let after : new.win32 ≡ with_posted old.win32 p.number t next = posts p e in
@@ -97,7 +97,7 @@ staged_post turns slot t next old new h there posts same =
 
     by_process : (o : Option Process) → process_in old.win32.processes slot ≡ o → IsSome (thread_of o t)
         → IsStaged turns new
-    by_process None e some = absurd some
+    by_process None e some = let never : false ≡ true = some in absurd (cc)
     by_process (Some p) e some = by_thread p (thread_in p.threads t) e refl some
 
 -- after the end of a process from outside
@@ -126,13 +126,42 @@ staged_key turns b old new h after same = record {
   few = subst (λ (s : Win32State). s.next ≤ turns + 3) (sym after) h.few;
 }
 
--- a live process has its threads
-has_thread : (slot t : ℕ) (xs : List Thread) → AreThreads (threads_of slot) xs → t ≤ 2 → (slot ≡ 0 → t ≤ 1)
-    → IsSome (thread_in xs t)
-has_thread zero zero (x ∷ y ∷ []) h few host = rw h.0 tt
-has_thread zero (suc zero) (x ∷ y ∷ []) h few host = rw h.0 (rw h.2.0 tt)
-has_thread zero (suc (suc t)) xs h few host = absurd (let l = host refl in omega (arith, l))
-has_thread (suc slot) zero (x ∷ y ∷ z ∷ []) h few host = rw h.0 tt
-has_thread (suc slot) (suc zero) (x ∷ y ∷ z ∷ []) h few host = rw h.0 (rw h.2.0 tt)
-has_thread (suc slot) (suc (suc zero)) (x ∷ y ∷ z ∷ []) h few host = rw h.0 (rw h.2.0 (rw h.2.2.0 tt))
-has_thread (suc slot) (suc (suc (suc t))) xs h few host = absurd (omega (arith, few))
+abbrev IsIn : ℕ → List ℕ → Type 0
+IsIn t [] = ⊥
+IsIn t (n ∷ ts) = (n ≡ t) ⊎ IsIn t ts
+
+thread_in-there : (ts : List ℕ) (xs : List Thread) (t : ℕ) → AreThreads ts xs → IsIn t ts → IsSome (thread_in xs t)
+thread_in-there [] xs t h i = absurd i
+thread_in-there (n ∷ ts) [] t h i = absurd h
+thread_in-there (n ∷ ts) (x ∷ xs) t h i = by_test (nat_eq x.number t) refl (thread_in-there ts xs t h.2)
+  where
+    by_test : (b : Bool) → nat_eq x.number t ≡ b → (IsIn t ts → IsSome (thread_in xs t))
+        → IsSome (if b then Some x else thread_in xs t)
+    by_test true e rest = refl
+    by_test false e rest = elim i [
+      | inl f ↦ let never : true ≡ false = sym (same x.number t (h.0 ∙ f)) ∙ e in absurd (cc)
+      | inr g ↦ rest g
+    ]
+
+few_threads : (slot t : ℕ) → t ≤ 2 → (slot ≡ 0 → t ≤ 1) → IsIn t (threads_of slot)
+few_threads zero zero few host = inl refl
+few_threads zero (suc zero) few host = inr (inl refl)
+few_threads zero (suc (suc t)) few host = absurd (let l = host refl in omega (arith, l))
+few_threads (suc slot) zero few host = inl refl
+few_threads (suc slot) (suc zero) few host = inr (inl refl)
+few_threads (suc slot) (suc (suc zero)) few host = inr (inr (inl refl))
+few_threads (suc slot) (suc (suc (suc t))) few host = absurd (omega (arith, few))
+
+-- a process that lives in a slot has its threads: two in slot 0, and three in every other one
+pub has_thread : (turns slot t w : ℕ) (m : Running) → IsStaged turns m → number_in m.win32 slot ≡ Some w → t ≤ 2
+    → (slot ≡ 0 → t ≤ 1) → IsSome (thread_at m.win32 slot t)
+has_thread turns slot t w m h stands few host = by_process (process_in m.win32.processes slot) refl stands
+  where
+    by_process : (o : Option Process) → process_in m.win32.processes slot ≡ o → number_of o ≡ Some w
+        → IsSome (thread_of o t)
+    by_process None e n = absurd (cc)
+    by_process (Some p) e n =
+        let found = process_in-found 1 m.win32.next m.win32.processes slot p h.formed.formed.processes e in
+        let live = of_live m.script m.win32.objects p p.life found.1 (h.formed.formed.process p.number p found.0) in
+        thread_in-there (threads_of p.slot) p.threads t live.threads
+        (subst (λ k. IsIn t (threads_of k)) (sym found.2) (few_threads slot t few host))
