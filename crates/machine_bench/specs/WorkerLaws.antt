@@ -17,8 +17,8 @@ lowers_at step.Loading true r a told keeps = omega arith
 lowers_at step.Loading false r a told keeps = omega arith
 lowers_at step.Setting main r a told keeps =
     let never : true ≡ false =
-        ap (λ b. (b || is_wait (posted_at step.Setting)) || is_lost_exchange (posted_at step.Setting) r) (sym told)
-        ∙ keeps in
+    ap (λ b. (b || is_wait (posted_at step.Setting)) || is_lost_exchange (posted_at step.Setting) r) (sym told)
+    ∙ keeps in
     absurd (cc)
 lowers_at step.Waiting main r a told keeps =
     let never : true ≡ false = ap (λ e. may_keep_rank (posted_at step.Waiting) r e) (sym told) ∙ keeps in

@@ -2,9 +2,9 @@
 //! settles. The arguments are how many slots the machine has, and how many turns to take; without them 1 and 8.
 #![tactic(auto)]
 
-ghost use Rattle.std.specs.Prelude.{◌≡◌, ◌+◌, ◌≤◌, ◌<◌};
-ghost use Rattle.win32_spec.specs.MemoryEffects.{HaveRegisters};
-ghost use Rattle.win32_spec.specs.WellFormed.{IsWellFormed};
+ghost use Rattle.std.specs.Prelude.{◌+◌, ◌≤◌, ◌<◌, IfOk};
+ghost use Rattle.script_spec.specs.Validity.{IsValid};
+ghost use Rattle.machine_bench.specs.Counted.{IsCounted};
 
 mod worker;
 
@@ -22,30 +22,54 @@ const SLOTS: u32 = 1;
 /// How many turns to take where no argument says it.
 const TURNS: u32 = 8;
 
+/// How many turns are taken at most.
+const MOST_TURNS: u32 = 4_000_000_000;
+
 /// A script of one program, for so many slots.
 fn script(alloc: Global, slots: u32) -> Result<Script>
-    ensures { Rattle.std.specs.Prelude.IfOk result Rattle.script_spec.specs.Validity.IsValid }
+    ensures { IfOk result IsValid }
 {
-    let text = format!(in alloc; "cygscript 1\nslots {slots}\nrows 1\nbudget 1\nprogram main heap 0 stack 64\ngetpid\nschedule\nsettle\n")?;
+    let text = format!(in alloc;
+        "cygscript 1\nslots {slots}\nrows 1\nbudget 1\nprogram main heap 0 stack 64\ngetpid\nschedule\nsettle\n"
+    )?;
     Ok(read_script(alloc, text.as_bytes())?)
+}
+
+/// The machine that runs such a script, at its opening.
+fn open(alloc: Global, slots: u32) -> Result<Driven<Worker>>
+    ensures { IfOk result (λ driven. IsCounted 0 driven) }
+{
+    let script = script(alloc, slots)?;
+    match Driven::open(alloc, &script) {
+        Ok(driven) => Ok(driven),
+        Err(fault) => Err(fault.into()),
+    }
+}
+
+/// Takes a turn after so many others, and answers whether a result was set.
+fn take_turn(driven: &mut Driven<Worker>, slot: Slot, thread: ThreadNo, taken: u32) -> bool
+    requires counted { IsCounted taken driven.old }
+    requires few { taken < 4000000000 }
+    ensures { IsCounted (taken + 1) driven.new }
+{
+    driven.turn(slot, thread).event().is_some()
 }
 
 /// Takes so many turns, or fewer where no thread is ready any more, and answers in how many of them a result was set.
 fn take_turns(driven: &mut Driven<Worker>, turns: u32) -> u32
-    requires registers { HaveRegisters driven.old.script }
-    requires formed { IsWellFormed driven.old.script driven.old.state.win32 }
-    requires few { driven.old.state.win32.next + turns < 4294967296 }
+    requires counted { IsCounted 0 driven.old }
+    requires few { turns ≤ 4000000000 }
 {
     let mut last = (Slot::new(64), ThreadNo::new(2));
     let mut results: u32 = 0;
-    for _ in 0..turns {
-        let Some(next) = driven.machine().next_ready(last) else {
+    for taken in 0..turns {
+        let Some((slot, thread)) = driven.machine().next_ready(last) else {
             return results;
         };
-        if driven.turn(next.0, next.1).event().is_some() {
+        if take_turn(driven, slot, thread, taken) {
             results = results.saturating_add(1);
         }
-        last = next;
+        last = (slot, thread);
     }
     results
 }
@@ -60,9 +84,8 @@ fn main(rt: HostRuntime) -> Result<()> {
         Some(word) => word.as_str().parse::<u32>()?,
         None => TURNS,
     };
-    let script = script(rt.alloc(), slots)?;
-    let mut driven: Driven<Worker> = Driven::open(rt.alloc(), &script)?;
-    let results = take_turns(&mut driven, turns.min(4_000_000_000));
+    let mut driven = open(rt.alloc(), slots)?;
+    let results = take_turns(&mut driven, turns.min(MOST_TURNS));
     println!(rt; "slots {slots}")?;
     println!(rt; "results {results}")?;
     Ok(())

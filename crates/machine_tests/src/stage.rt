@@ -1,7 +1,6 @@
 //! A machine on which tests try calls: each thread may post any call at any time, and takes a turn at once.
 
-ghost use Rattle.std.specs.Prelude.{◌≡◌, ◌≤◌, ◌<◌, length, [], IsSome};
-ghost use Rattle.script_spec.specs.Validity.{IsValid};
+ghost use Rattle.std.specs.Prelude.{◌≡◌, ◌≤◌, [], IsTrue};
 
 use cyg_script::{ScriptError, read_script};
 use script_spec::{Lines, ScheduleLine};
@@ -51,10 +50,22 @@ impl Stage {
         requires none { self.old.win32.keys ≡ [] }
     {
         for place in 0..lines.len() {
-            if let Some(ScheduleLine::Given(Directive::Key(b))) = lines.get(place) {
-                self.machine.key(b);
-            }
+            self.type_line(lines, place);
         }
+    }
+
+    // The key of a line goes to the console's queue, after those of the lines before it.
+    fn type_line(&mut self, lines: &Lines, place: usize)
+        requires script { lines.now ≡ self.old.script.directives }
+        requires typed { IsTypedTo lines.now place self.old.win32.keys }
+        requires within { place < length lines.now }
+        ensures script { self.new.script ≡ self.old.script }
+        ensures typed { IsTypedTo lines.now (place + 1) self.new.win32.keys }
+    {
+        let Some(b) = key_at(lines, place) else {
+            return;
+        };
+        self.machine.key(b);
     }
 
     /// A thread posts a call and takes a turn: the reply, or none where there is no such thread or it isn't ready.
@@ -66,7 +77,10 @@ impl Stage {
 
     // A thread posts a call, where there is such a thread.
     fn post(&mut self, slot: Slot, thread: ThreadNo, call: Call) {
-        if self.machine.in_slot(slot).is_some() && (slot.get() > 0 || thread.get() < 2) {
+        let Some(_) = self.machine.in_slot(slot) else {
+            return;
+        };
+        if is_thread(slot, thread) {
             self.machine.post(slot, thread, call);
         }
     }
@@ -132,6 +146,24 @@ pub fn open_pair<R: AllocGlobal + Abort>(rt: &R) -> Stage {
     let mut m = open_stage(rt, TWO_SLOTS);
     m.makes(rt, 4, &[1]);
     m
+}
+
+// The key that a line of a schedule gives, if any.
+fn key_at(lines: &Lines, place: usize) -> Option<u8>
+    requires { place < length lines.now }
+    ensures { IfSome (slice_get lines.now place) (λ line. result ≡ key_given line) }
+{
+    match lines.get(place) {
+        Some(ScheduleLine::Given(Directive::Key(b))) => Some(b),
+        _ => None,
+    }
+}
+
+// Whether a process in the slot has such a thread.
+fn is_thread(slot: Slot, thread: ThreadNo) -> bool
+    ensures { IsTrue result → slot ≡ 0 → thread ≤ 1 }
+{
+    slot.get() > 0 || thread.get() < 2
 }
 
 /// A handle.
