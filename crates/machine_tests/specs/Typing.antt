@@ -1,6 +1,6 @@
 -- The keys of a schedule, put into the console's queue one after another.
-use Rattle.std.proofs.Common.{◌≡◌, ℕ, zero, suc, ◌+◌, ◌≤◌, ◌<◌, List, [], ◌∷◌, ◌++◌, length, length-append, Option, Some, None}
-use Rattle.std.proofs.Common.{take, slice_get, refl, sym, ap, subst, arith}
+use Rattle.std.proofs.Common.{◌≡◌, ℕ, zero, suc, ◌+◌, ◌≤◌, ◌<◌, List, [], ◌∷◌, ◌++◌, length, length-append, Option, Some, None, IfSome}
+use Rattle.std.proofs.Common.{take, slice_get, refl, sym, ap, ◌∙◌, subst, arith}
 use Rattle.w32_base.specs.declared.entry.Directive.TheVariants as directive
 use Rattle.script_spec.specs.declared.script.ScheduleLine.TheVariants.{Given, Steps, Settle}
 use Rattle.script_spec.specs.declared.script.ScheduleLine.{ScheduleLine}
@@ -49,18 +49,29 @@ none-given (Given (directive.End slot)) e = refl
 none-given (Steps n) e = refl
 none-given Settle e = refl
 
+line_at : (lines : List ScheduleLine) (n : ℕ) → n < length lines
+    → (line : ScheduleLine) × (slice_get lines n ≡ Some line)
+line_at [] n within = absurd (omega (arith, within))
+line_at (x ∷ lines) zero within = (x, refl)
+line_at (x ∷ lines) (suc n) within = line_at lines n (omega (arith, within))
+
 -- there is room for the key of a line, and then so many lines are typed
-pub room_at : (lines : List ScheduleLine) (n b : ℕ) (line : ScheduleLine) (keys : List ℕ)
-    → slice_get lines n ≡ Some line → key_given line ≡ Some b → IsTypedTo lines n keys
+pub room_at : (lines : List ScheduleLine) (n b : ℕ) (o : Option ℕ) (keys : List ℕ) → n < length lines
+    → IfSome (slice_get lines n) (λ line. o ≡ key_given line) → o ≡ Some b → IsTypedTo lines n keys
     → (length keys < key_lines lines) × IsTypedTo lines (n + 1) (keys ++ b ∷ [])
-room_at lines n b line keys e given typed =
-    let next = take-next lines n line e in
-    let one = one-given line b given in
+room_at lines n b o keys within given e typed =
+    let line = line_at lines n within in
+    let found : o ≡ key_given line.0 = subst (λ x. IfSome x (λ y. o ≡ key_given y)) line.1 given in
+    let next = take-next lines n line.0 line.1 in
+    let one = one-given line.0 b (sym found ∙ e) in
     (omega (arith, next.1, one, typed), omega (arith, next.0, one, typed, length-append keys (b ∷ [])))
 
 -- a line without a key is typed at once
-pub typed_at : (lines : List ScheduleLine) (n : ℕ) (line : ScheduleLine) (keys : List ℕ)
-    → slice_get lines n ≡ Some line → key_given line ≡ None → IsTypedTo lines n keys → IsTypedTo lines (n + 1) keys
-typed_at lines n line keys e given typed =
-    let next = take-next lines n line e in
-    omega (arith, next.0, none-given line given, typed)
+pub typed_at : (lines : List ScheduleLine) (n : ℕ) (o : Option ℕ) (keys : List ℕ) → n < length lines
+    → IfSome (slice_get lines n) (λ line. o ≡ key_given line) → o ≡ None → IsTypedTo lines n keys
+    → IsTypedTo lines (n + 1) keys
+typed_at lines n o keys within given e typed =
+    let line = line_at lines n within in
+    let found : o ≡ key_given line.0 = subst (λ x. IfSome x (λ y. o ≡ key_given y)) line.1 given in
+    let next = take-next lines n line.0 line.1 in
+    omega (arith, next.0, none-given line.0 (sym found ∙ e), typed)

@@ -1,6 +1,7 @@
 //! A machine on which tests try calls: each thread may post any call at any time, and takes a turn at once.
 
-ghost use Rattle.std.specs.Prelude.{◌≡◌, ◌≤◌, [], IsTrue};
+ghost use Rattle.std.specs.Prelude.{◌≡◌, ◌+◌, ◌<◌, ◌≤◌, length, [], IsTrue, IfSome, slice_get};
+ghost use Rattle.machine_tests.specs.Typing.{IsTypedTo, key_given};
 
 use cyg_script::{ScriptError, read_script};
 use script_spec::{Lines, ScheduleLine};
