@@ -1,7 +1,8 @@
 //! The parts that work on the words of rows, each on a machine of two processes, of which the other one or the host
 //! changes a word meanwhile.
 
-ghost use Rattle.std.specs.Prelude.{◌≡◌, ◌<◌, ◌≤◌, false};
+ghost use Rattle.std.specs.Prelude.{◌≡◌, ◌<◌, false};
+ghost use Rattle.roster.specs.Post.{post_rank};
 
 use crate::stage::{Stage, TWO_SLOTS, handle, handles, open_stage};
 use cyg_script::read_script;
@@ -301,7 +302,7 @@ fn kill(signal: u8) -> Event {
 
 /// The post of a signal to row 2 by process 2, at its start.
 fn post_of(signal: Signal) -> Post
-    ensures { 0 < Rattle.roster.specs.Post.post_rank result }
+    ensures { 0 < post_rank result }
 {
     Post::new(row(2), signal, kill(signal.get()), Poster::Main(row(1)))
 }
