@@ -1,5 +1,5 @@
 -- How many processes a turn makes: the number that the next process gets rises by one at most.
-use Rattle.std.proofs.Common.{◌≡◌, ℕ, ◌+◌, ◌≤◌, Option, sym, subst, arith}
+use Rattle.std.proofs.Common.{ℕ, ◌+◌, ◌≤◌, Option, sym, subst, arith}
 use Rattle.w32_base.specs.declared.call.Call.{Call}
 use Rattle.w32_base.specs.declared.entry.Directive.TheVariants as directive
 use Rattle.w32_base.specs.declared.entry.Outcome.{Outcome}
@@ -7,7 +7,7 @@ use Rattle.script_spec.specs.declared.script.Script.{Script}
 use Rattle.win32_spec.specs.State.{Win32State}
 use Rattle.win32_spec.specs.Lookup.{process_of, is_live}
 use Rattle.win32_spec.specs.Ready.{is_ready}
-use Rattle.win32_spec.specs.Run.{Acts, ReadyTurn, StepBy}
+use Rattle.win32_spec.specs.Run.{ReadyTurn, StepBy}
 use Rattle.win32_spec.specs.WellFormed.{IsWellFormed}
 use Rattle.win32_spec.specs.CallEffects.{by_bool}
 use Rattle.win32_spec.specs.Effects.{CallEffect, Changes, Opens, Adds, AddsPipe, Makes, Closes, Ends}

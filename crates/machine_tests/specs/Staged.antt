@@ -1,19 +1,18 @@
 -- A machine of which is known how many turns it took at most: each turn and each post is allowed again.
 use Rattle.std.proofs.Common.{◌≡◌, ◌⊎◌, inl, inr, ◌∙◌, ℕ, zero, suc, ◌+◌, ◌≤◌, Bool, true, false, nat_eq, if◌then◌else◌}
-use Rattle.std.proofs.Common.{Option, Some, None, IsSome, List, [], ◌∷◌, refl, sym, ap, subst, arith}
+use Rattle.std.proofs.Common.{Option, Some, None, IsSome, List, [], ◌∷◌, refl, sym, subst, arith}
 use Rattle.w32_base.specs.declared.call.Call.{Call}
-use Rattle.w32_base.specs.declared.call.Reply.{Reply}
 use Rattle.w32_base.specs.declared.entry.Directive.TheVariants as directive
 use Rattle.w32_base.specs.declared.entry.Outcome.{Outcome}
 use Rattle.script_spec.specs.declared.script.Script.{Script}
 use Rattle.script_spec.specs.Validity.{IsValid}
 use Rattle.win32_spec.specs.State.{Thread, Process, Win32State}
-use Rattle.win32_spec.specs.Lookup.{process_of, is_live, process_in, thread_in, thread_of, thread_at, number_of, number_in}
+use Rattle.win32_spec.specs.Lookup.{process_in, thread_in, thread_of, thread_at, number_of, number_in}
 use Rattle.win32_spec.specs.Lookup.{with_posted}
 use Rattle.win32_spec.specs.Making.{threads_of}
 use Rattle.win32_spec.specs.Opening.{IsOpening}
-use Rattle.win32_spec.specs.Run.{PostedStep, EndStep, CarriesOut, Posts, StepBy, with_key}
-use Rattle.win32_spec.specs.WellFormed.{AreThreads, IsFormed, IsWellFormed}
+use Rattle.win32_spec.specs.Run.{PostedStep, EndStep, Posts, StepBy, with_key}
+use Rattle.win32_spec.specs.WellFormed.{AreThreads, IsWellFormed}
 use Rattle.win32_spec.specs.FormedLaws.{of_live}
 use Rattle.win32_spec.specs.KeepLaws.{wellformed-effect}
 use Rattle.win32_spec.specs.LookupLaws.{same, process_in-found}

@@ -1,5 +1,4 @@
 use Rattle.std.proofs.Common.{◌≡◌}
-use Rattle.machine_tests.specs.Staged.{IsStaged}
 use Rattle.machine_tests.specs.Typing.{IsTypedTo}
 use Rattle.machine_tests.proofs.stage.Stage.type_keys.Given as goal
 

@@ -1,4 +1,4 @@
-use Rattle.std.proofs.Common.{◌≡◌, ◌+◌, ◌<◌, ◌++◌, ◌∷◌, [], length, None, Some, sym, subst, ap, rules}
+use Rattle.std.proofs.Common.{◌≡◌, ◌+◌, ◌<◌, length, None, Some, sym, subst, rules}
 use Rattle.w32_machine.specs.Contract.{key_lines}
 use Rattle.machine_tests.specs.Staged.{staged_key}
 use Rattle.machine_tests.specs.Typing.{IsTypedTo, room_at, typed_at}
