@@ -15,6 +15,17 @@ fn a_process_is_made_while_there_is_a_slot(rt: HostRuntime) {
 }
 
 #[test]
+fn a_process_that_has_ended_has_a_code(rt: HostRuntime) {
+    let mut m = open_pair(&rt);
+    m.says(&rt, 1, Call::ExitCode(handle(4)), Reply::Active);
+    m.waits(&rt, 1, Call::WaitAny(handles(&[4])));
+    assert_eq!(rt; m.end(2), Some(WinNo::new(3)));
+    assert_eq!(rt; m.end(2), None);
+    m.says(&rt, 1, Call::ExitCode(handle(4)), Reply::Code(65536));
+    m.says(&rt, 1, Call::WaitAny(handles(&[4])), Reply::Woke(0));
+}
+
+#[test]
 fn a_process_is_opened_while_it_lives_or_is_held(rt: HostRuntime) {
     let mut m = open_pair(&rt);
     m.says(&rt, 1, Call::Open(WinNo::new(9)), Reply::Unknown);
@@ -37,6 +48,22 @@ fn a_thread_runs_when_its_count_is_zero(rt: HostRuntime) {
     m.says(&rt, 2, Call::Load(handle(1), 0), Reply::Word(1));
     m.says(&rt, 1, Call::Suspend(handle(4), 0), Reply::Count(0));
     m.waits(&rt, 2, Call::Load(handle(1), 0));
+}
+
+#[test]
+fn helper_threads_start_suspended(rt: HostRuntime) {
+    let mut m = open_pair(&rt);
+    assert_eq!(rt; m.call(2, 1, Call::Load(handle(1), 0)), None);
+    m.says(&rt, 1, Call::Resume(handle(4), 1), Reply::Count(1));
+    assert_eq!(rt;
+        m.call(2, 1, Call::Load(handle(1), 0)),
+        Some(Reply::Word(1))
+    );
+    m.says(&rt, 1, Call::Resume(handle(4), 3), Reply::BadIndex);
+    m.says(&rt, 1, Call::Suspend(handle(4), 3), Reply::BadIndex);
+    let _ = m.end(2);
+    m.says(&rt, 1, Call::Resume(handle(4), 3), Reply::Gone);
+    m.says(&rt, 1, Call::Suspend(handle(4), 0), Reply::Gone);
 }
 
 #[test]

@@ -96,6 +96,20 @@ fn group() -> Pid {
 }
 
 #[test]
+fn a_line_is_taken_in_parts(rt: HostRuntime) {
+    let mut m = open_typed(&rt, b"abc\nd\n");
+    types(&mut m, &rt, 3);
+    has_no_line(&mut m, &rt);
+    types(&mut m, &rt, 3);
+    takes(&mut m, &rt, 2, 2);
+    assert_eq!(rt; m.heap_byte(1, 1), Some(b'b'));
+    takes(&mut m, &rt, 64, 2);
+    assert_eq!(rt; m.heap_byte(1, 0), Some(b'c'));
+    takes(&mut m, &rt, 64, 2);
+    has_no_line(&mut m, &rt);
+}
+
+#[test]
 fn a_key_waits_for_the_console(rt: HostRuntime) {
     let mut m = open_typed(&rt, b"a");
     m.says(&rt, 0, Call::WaitAny(handles(&[3])), Reply::Woke(0));
@@ -132,6 +146,22 @@ fn with_sixteen_lines_an_end_is_dropped(rt: HostRuntime) {
     }
     takes(&mut m, &rt, 64, 3);
     assert_eq!(rt; m.heap_byte(1, 1), Some(b'b'));
+    has_no_line(&mut m, &rt);
+}
+
+#[test]
+fn a_line_has_254_bytes_before_its_end(rt: HostRuntime) {
+    let mut keys = [b'a'; 258];
+    keys[254] = b'b';
+    keys[257] = NEW_LINE;
+    let mut m = open_typed(&rt, &keys);
+    types(&mut m, &rt, 258);
+    for _ in 0..3 {
+        takes(&mut m, &rt, 64, 64);
+    }
+    takes(&mut m, &rt, 64, 63);
+    assert_eq!(rt; m.heap_byte(1, 61), Some(b'a'));
+    assert_eq!(rt; m.heap_byte(1, 62), Some(NEW_LINE));
     has_no_line(&mut m, &rt);
 }
 
