@@ -1,12 +1,13 @@
 #!/bin/sh
-# Times `cyg check`, as `rt run` builds it, on two logs of view `events`, beside `wc -l` of the same files: one run, on one
-# machine. The first log has 200,000 events of one process, the second 2,000 forks and reapings. Prints the events a
-# second and the ratio. Usage: bench/run_check.sh [EVENTS [FORKS [TIMES]]]
+# Times `cyg check`, as `rt run` builds it, on two logs of view `events`, beside `wc -l` of the same files: one run, on
+# one machine. The first log has 200,000 events of one process, the second 2,000 forks and reapings. Prints the events
+# a second and the ratio. Usage: bench/run_check.sh [EVENTS [FORKS [TIMES]]]
 set -eu
 top=$(cd "$(dirname "$0")/.." && pwd)
 events=${1:-200000}
 forks=${2:-2000}
 times=${3:-5}
+. "$top/bench/seconds.sh"
 tool=$(mktemp -d)
 trap 'rm -rf "$tool"' EXIT
 cyg=$top/crates/cyg/out/cyg
@@ -37,20 +38,11 @@ head_of() { printf 'cygscript 1\nslots 64\nrows 4000\nbudget 500000\n'; }
 
 (cd "$top/crates/cyg" && rt run -- check <"$tool/forks" >"$tool/build.log" 2>&1) || { cat "$tool/build.log"; exit 1; }
 
-# seconds COMMAND..: how long it takes on the file, so many times
-seconds() {
-    begin=$(date +%s.%N)
-    n=0
-    while [ "$n" -lt "$times" ]; do "$@" <"$file" >"$tool/out"; n=$((n + 1)); done
-    end=$(date +%s.%N)
-    echo "$begin $end" | awk '{ printf "%.3f", $2 - $1 }'
-}
-
 for name in one forks; do
     file=$tool/$name
-    check=$(seconds "$cyg" check)
+    check=$(seconds "$times" "$file" "$cyg" check)
     [ "$(cat "$tool/out")" = yes ] || { echo "$name: $(cat "$tool/out")"; exit 1; }
-    count=$(seconds wc -l)
+    count=$(seconds "$times" "$file" wc -l)
     lines=$(sed '1,/^==$/d' "$file" | wc -l)
     echo "$name $((lines - 2)) $times $check $count" | awk '{
         printf "%s: %d events, %d times: check %.3f s, %.2f million events a second; wc -l %.3f s, ratio %.0f\n",

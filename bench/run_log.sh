@@ -4,22 +4,15 @@
 set -eu
 top=$(cd "$(dirname "$0")/.." && pwd)
 entries=${1:-500000}
+. "$top/bench/seconds.sh"
 tool=$(mktemp -d)
 trap 'rm -rf "$tool"' EXIT
 (cd "$top/crates/log_bench" && rt run >"$tool/build.log" 2>&1) || { cat "$tool/build.log"; exit 1; }
 ${CC:-cc} -O2 -o "$tool/log_all" "$top/bench/log_all.c"
 
-# seconds COMMAND..: how long it takes
-seconds() {
-    begin=$(date +%s.%N)
-    "$@" >"$tool/out"
-    end=$(date +%s.%N)
-    echo "$begin $end" | awk '{ printf "%.3f", $2 - $1 }'
-}
-
-rattle=$(seconds "$top/crates/log_bench/out/log_bench" "$entries")
+rattle=$(seconds 1 /dev/null "$top/crates/log_bench/out/log_bench" "$entries")
 cp "$tool/out" "$tool/rattle.out"
-c=$(seconds "$tool/log_all" "$entries")
+c=$(seconds 1 /dev/null "$tool/log_all" "$entries")
 cmp "$tool/rattle.out" "$tool/out" || { echo "the two write different logs"; exit 1; }
 echo "$entries $rattle $c" | awk '{
     printf "%d entries\n", $1

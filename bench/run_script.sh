@@ -4,6 +4,7 @@
 set -eu
 top=$(cd "$(dirname "$0")/.." && pwd)
 times=${1:-20}
+. "$top/bench/seconds.sh"
 tool=$(mktemp -d)
 trap 'rm -rf "$tool"' EXIT
 (cd "$top/crates/script_bench" && rt run <"$top/crates/script_bench/stdin" >"$tool/build.log" 2>&1) ||
@@ -24,15 +25,6 @@ head_of() { printf 'cygscript 1\nslots 64\nrows 4000\nbudget 500000\n'; }
     for (i = 0; i < 10000; i++) print "turn 64 2"
 }'; } >"$tool/directives"
 
-# seconds COMMAND..: how long it takes, so many times
-seconds() {
-    begin=$(date +%s.%N)
-    n=0
-    while [ "$n" -lt "$times" ]; do "$@" <"$file" >"$tool/out"; n=$((n + 1)); done
-    end=$(date +%s.%N)
-    echo "$begin $end" | awk '{ printf "%.3f", $2 - $1 }'
-}
-
 for name in programs directives; do
     file=$tool/$name
     awk -v most=1048576 -v have="$(wc -c <"$file")" 'BEGIN {
@@ -40,9 +32,9 @@ for name in programs directives; do
         while (left > 0) { n = left > 200 ? 200 : left; if (left - n == 1) n--
             printf "#"; for (i = 2; i < n; i++) printf "."; printf "\n"; left -= n }
     }' >>"$file"
-    reader=$(seconds "$top/crates/script_bench/out/script_bench")
+    reader=$(seconds "$times" "$file" "$top/crates/script_bench/out/script_bench")
     cat "$tool/out"
-    counter=$(seconds wc -l)
+    counter=$(seconds "$times" "$file" wc -l)
     echo "$name $(wc -c <"$file") $times $reader $counter" | awk '{
         printf "%s: %d bytes, %d times: script_bench %.3f s, wc -l %.3f s, ratio %.1f\n", $1, $2, $3, $4, $5, $4 / $5
     }'

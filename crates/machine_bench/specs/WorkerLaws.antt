@@ -4,7 +4,7 @@ use Rattle.w32_base.specs.declared.call.Call.TheVariants.{Load}
 use Rattle.w32_base.specs.declared.call.Reply.{Reply}
 use Rattle.w32_base.specs.declared.own.Own.{Own}
 use Rattle.w32_base.specs.declared.part.After.{After}
-use Rattle.w32_base.specs.Part.{may_keep_rank, is_wait, is_lost_exchange, KeepsLengths, KeepsImage, with_image}
+use Rattle.w32_base.specs.Part.{may_keep_rank, is_wait, is_lost_exchange, KeepsLengths, KeepsImage, with_image_of}
 use Rattle.machine_bench.specs.declared.worker.Step.{Step}
 use Rattle.machine_bench.specs.declared.worker.Step.TheVariants as step
 use Rattle.machine_bench.specs.declared.worker.Worker.{Worker}
@@ -61,13 +61,13 @@ worker_keeps_image p q o n a other g =
     subst (KeepsImage o) (sym (g.still other)) (record { dat = refl; heap = refl; stack = refl })
 
 pub worker_ignores_image : (p q : Worker) (o n x : Own) (a : After) → p.thread ≢ 0 → WorkerGoes p o q n a
-    → WorkerGoes p (with_image o x) q (with_image n x) a
+    → WorkerGoes p (with_image_of o x) q (with_image_of n x) a
 worker_ignores_image p q o n x a other g =
-    let same : with_image n x ≡ with_image o x = ap (λ y. with_image y x) (g.still other) in
+    let same : with_image_of n x ≡ with_image_of o x = ap (λ y. with_image_of y x) (g.still other) in
     record {
       part = g.part;
       told = g.told;
-      lengths = subst (KeepsLengths (with_image o x)) (sym same)
+      lengths = subst (KeepsLengths (with_image_of o x)) (sym same)
           (record { dat = refl; heap = refl; stack = refl; cyg = refl; scratch = refl });
       still = λ _. same;
     }

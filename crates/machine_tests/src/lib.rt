@@ -1,5 +1,4 @@
-//! Tests of the modelled Win32: its calls and its terminal as threads of several processes see them, and the parts of
-//! the layer that work on the words of rows.
+//! Tests of the modelled Win32: its calls and its terminal as threads of several processes see them.
 #![tactic(auto)]
 
 #[cfg(test)]
@@ -7,10 +6,8 @@ mod memory;
 #[cfg(test)]
 mod objects;
 #[cfg(test)]
-mod parts;
-#[cfg(test)]
 mod processes;
 #[cfg(test)]
-mod stage;
-#[cfg(test)]
 mod terminal;
+#[cfg(test)]
+mod tried;

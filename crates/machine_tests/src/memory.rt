@@ -1,6 +1,7 @@
 //! Bytes of other processes, modules, and blocks of instructions.
 
-use crate::stage::{handle, handles, open_pair, open_stage};
+use crate::tried::{open_pair, open_stage};
+use machine_stage::{handle, handles};
 use w32_base::Region::{Cyg, Heap, Scratch};
 use w32_base::{Call, Reply, WinNo};
 
@@ -77,7 +78,8 @@ fn at_most_512_bytes_are_read(rt: HostRuntime) {
 }
 
 const TWO_MODULES: &[u8] =
-    b"cygscript 1\nslots 2\nrows 2\nbudget 1\nmodule core 10 4\nmodule tail 12 2\noccupy 2 11\nprogram main heap 0 stack 64\ngetpid\nschedule\nsettle\n";
+    b"cygscript 1\nslots 2\nrows 2\nbudget 1\nmodule core 10 4\nmodule tail 12 2\noccupy 2 11\n\
+      program main heap 0 stack 64\ngetpid\nschedule\nsettle\n";
 
 #[test]
 fn a_module_is_placed_once(rt: HostRuntime) {
@@ -92,8 +94,8 @@ fn a_module_is_placed_once(rt: HostRuntime) {
     m.says(&rt, 0, Call::Module(0), Reply::BadIndex);
 }
 
-const THREE_INSTRUCTIONS: &[u8] =
-    b"cygscript 1\nslots 2\nrows 2\nbudget 1\nprogram main heap 8 stack 64\nset r0 5\nstore 3 r0\ngetpid\nschedule\nsettle\n";
+const THREE_INSTRUCTIONS: &[u8] = b"cygscript 1\nslots 2\nrows 2\nbudget 1\n\
+      program main heap 8 stack 64\nset r0 5\nstore 3 r0\ngetpid\nschedule\nsettle\n";
 
 #[test]
 fn a_block_ends_before_a_call(rt: HostRuntime) {

@@ -1,6 +1,7 @@
 //! Calls that make, hold and end processes.
 
-use crate::stage::{TWO_SLOTS, handle, handles, open_pair, open_stage};
+use crate::tried::{open_pair, open_stage};
+use machine_stage::{TWO_SLOTS, handle, handles};
 use w32_base::{Call, Reply, WinNo};
 
 #[test]

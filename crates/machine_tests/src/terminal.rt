@@ -1,6 +1,7 @@
 //! The terminal: keys that the console takes, lines that a process takes.
 
-use crate::stage::{Stage, handle, handles, open_stage};
+use crate::tried::{Tried, open_stage};
+use machine_stage::{handle, handles};
 use std::alloc::{AllocError, AllocGlobal, Global};
 use std::process::Abort;
 use w32_base::{Call, Pid, Reply, TtyOp};
@@ -42,7 +43,7 @@ fn script_with(alloc: Global, keys: &[u8]) -> Result<Vec<u8>, AllocError> {
 }
 
 /// The machine with these keys in the console's queue.
-fn open_typed<R: AllocGlobal + Abort>(rt: &R, keys: &[u8]) -> Stage {
+fn open_typed<R: AllocGlobal + Abort>(rt: &R, keys: &[u8]) -> Tried {
     match script_with(rt.alloc(), keys) {
         Ok(text) => open_stage(rt, text.as_slice()),
         Err(fault) => panic!(rt; "{fault}"),
@@ -50,7 +51,7 @@ fn open_typed<R: AllocGlobal + Abort>(rt: &R, keys: &[u8]) -> Stage {
 }
 
 /// The console takes so many keys, none of which is for a signal.
-fn types<R: Abort>(m: &mut Stage, rt: &R, count: usize) {
+fn types<R: Abort>(m: &mut Tried, rt: &R, count: usize) {
     for _ in 0..count {
         match m.call(0, 0, Call::Tty(handle(3), TtyOp::Key)) {
             Some(Reply::Key(_, 0, _)) => {}
@@ -60,7 +61,7 @@ fn types<R: Abort>(m: &mut Stage, rt: &R, count: usize) {
 }
 
 /// The console takes a key that is for a signal to the foreground group.
-fn signals<R: Abort>(m: &mut Stage, rt: &R, key: u8, signal: u8) {
+fn signals<R: Abort>(m: &mut Tried, rt: &R, key: u8, signal: u8) {
     m.says(
         rt,
         0,
@@ -70,7 +71,7 @@ fn signals<R: Abort>(m: &mut Stage, rt: &R, key: u8, signal: u8) {
 }
 
 /// Process 2 takes at most so many bytes of the first done line, and gets this many.
-fn takes<R: Abort>(m: &mut Stage, rt: &R, most: u32, got: u8) {
+fn takes<R: Abort>(m: &mut Tried, rt: &R, most: u32, got: u8) {
     m.says(
         rt,
         1,
@@ -80,7 +81,7 @@ fn takes<R: Abort>(m: &mut Stage, rt: &R, most: u32, got: u8) {
 }
 
 /// No line is done.
-fn has_no_line<R: Abort>(m: &mut Stage, rt: &R) {
+fn has_no_line<R: Abort>(m: &mut Tried, rt: &R) {
     m.says(
         rt,
         1,

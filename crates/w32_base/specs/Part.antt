@@ -43,8 +43,8 @@ pub record KeepsImage (old new : Own) : Type 0 where
   pub stack : new.stack ≡ old.stack
 
 -- own with the data, heap and stack of other
-abbrev pub with_image : Own → Own → Own
-with_image own other = record own { dat = other.dat; heap = other.heap; stack = other.stack }
+abbrev pub with_image_of : Own → Own → Own
+with_image_of own other = record own { dat = other.dat; heap = other.heap; stack = other.stack }
 
 -- regions without bytes
 abbrev pub no_bytes : Own

@@ -1,6 +1,7 @@
 //! Short lists of a fixed room, which take no memory. A contract sees each of them as a list.
 
-ghost use Rattle.std.specs.Prelude.{◌≡◌, ◌+◌, ◌<◌, ◌≤◌, ◌↔◌, [], ◌∷◌, ◌++◌, length, IsTrue, IsSome, IfSome, slice_get, slice_index, All};
+ghost use Rattle.std.specs.Prelude.{◌≡◌, ◌+◌, ◌<◌, ◌≤◌, ◌↔◌, [], ◌∷◌, ◌++◌, length, IsTrue, IsSome, IfSome, slice_get};
+ghost use Rattle.std.specs.Prelude.{slice_index, All};
 
 use crate::numbers::HandleNo;
 use std::marker::Model;

@@ -2,7 +2,8 @@
 //!
 //! A contract sees each of them as a bare number. Its type keeps its range.
 
-ghost use Rattle.std.specs.Prelude.{◌≡◌, ◌+◌, ◌-◌, ◌*◌, ◌/◌, ◌%◌, ◌<◌, ◌≤◌, ◌↔◌, ◌^◌, ◌≤ℤ◌, pos, negsuc, IsTrue, IsSome, IfSome};
+ghost use Rattle.std.specs.Prelude.{◌≡◌, ◌+◌, ◌-◌, ◌*◌, ◌/◌, ◌%◌, ◌<◌, ◌≤◌, ◌↔◌, ◌^◌, ◌≤ℤ◌, pos, negsuc, IsTrue};
+ghost use Rattle.std.specs.Prelude.{IsSome, IfSome};
 
 use std::marker::Model;
 

@@ -1,6 +1,7 @@
 //! The memory of a process.
 
-ghost use Rattle.std.specs.Prelude.{◌≡◌, ◌<◌, ◌≤◌, length, IfOk, slice_get, slice_index, slice_set, replicate, IsTrue, ◌↔◌, [], ◌+◌, ◌++◌, take, drop, vec_capacity};
+ghost use Rattle.std.specs.Prelude.{◌≡◌, ◌<◌, ◌≤◌, length, IfOk, slice_get, slice_index, slice_set, replicate, IsTrue};
+ghost use Rattle.std.specs.Prelude.{◌↔◌, [], ◌+◌, ◌++◌, take, drop, vec_capacity};
 ghost use Rattle.std.specs.Int.{w32, from_le_bytes, to_le_bytes};
 ghost use Rattle.w32_base.specs.Part.{no_bytes};
 

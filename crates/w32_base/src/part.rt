@@ -7,7 +7,7 @@ ghost use Rattle.w32_base.specs.declared.call.Reply.{Reply};
 ghost use Rattle.w32_base.specs.declared.own.Own.{Own};
 ghost use Rattle.w32_base.specs.declared.setup.Setup.{Setup};
 ghost use Rattle.w32_base.specs.declared.part.After.{After};
-ghost use Rattle.w32_base.specs.Part.{may_keep_rank, KeepsLengths, KeepsImage, with_image};
+ghost use Rattle.w32_base.specs.Part.{may_keep_rank, KeepsLengths, KeepsImage, with_image_of};
 
 use crate::call::{Call, Reply};
 use crate::event::Event;
@@ -97,5 +97,5 @@ pub trait Whole: Part {
 
     /// What another thread does doesn't depend on them.
     ghost ignores_image: { (p q : Self) (o n other : Own) (s : Setup) (r : Reply) (a : After) → thread_of p ≢ 0
-        → Self.goes p o s r q n a → Self.goes p (with_image o other) s r q (with_image n other) a };
+        → Self.goes p o s r q n a → Self.goes p (with_image_of o other) s r q (with_image_of n other) a };
 }

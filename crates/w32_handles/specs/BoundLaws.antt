@@ -9,7 +9,7 @@ use Rattle.win32_spec.specs.Lookup.{is_alive, object_number, object_of, add_obje
 use Rattle.win32_spec.specs.Pipes.{all_holders_of}
 use Rattle.win32_spec.specs.WellFormed.{AreRisingObjects}
 use Rattle.win32_spec.specs.LookupLaws.{same, differs, before, not_before}
-use Rattle.w32_handles.specs.Table.{Kept}
+use Rattle.w32_handles.specs.Table.{HeldObject}
 use Rattle.w32_handles.specs.Counted.{holders_on, all_holders_on, all_handles, count_objects}
 use Rattle.w32_handles.specs.CountLaws.{is_on}
 use Rattle.w32_handles.specs.Shown.{objects_from, without_object}
@@ -43,30 +43,30 @@ all_holders_on-le (p ∷ ps) o even = by_life (is_alive p.life) (all_holders_on-
 
 module _ {K : Type 0} where
   -- a sum over the numbers of the objects, which stand at the places from one on
-  abbrev sum_over : (ℕ → ℕ) → ℕ → List (Option (Kept K)) → ℕ
+  abbrev sum_over : (ℕ → ℕ) → ℕ → List (Option (HeldObject K)) → ℕ
   sum_over g place [] = 0
   sum_over g place (None ∷ places) = sum_over g (place + 1) places
   sum_over g place (Some kept ∷ places) = g (2 * place) + sum_over g (place + 1) places
 
-  sum-plus : (g h : ℕ → ℕ) (place : ℕ) (places : List (Option (Kept K)))
+  sum-plus : (g h : ℕ → ℕ) (place : ℕ) (places : List (Option (HeldObject K)))
       → sum_over (λ o. g o + h o) place places ≡ sum_over g place places + sum_over h place places
   sum-plus g h place [] = refl
   sum-plus g h place (None ∷ places) = sum-plus g h (place + 1) places
   sum-plus g h place (Some kept ∷ places) = omega (arith, sum-plus g h (place + 1) places)
 
-  sum-same : (g h : ℕ → ℕ) → ((k : ℕ) → g (2 * k) ≡ h (2 * k)) → (place : ℕ) (places : List (Option (Kept K)))
+  sum-same : (g h : ℕ → ℕ) → ((k : ℕ) → g (2 * k) ≡ h (2 * k)) → (place : ℕ) (places : List (Option (HeldObject K)))
       → sum_over g place places ≡ sum_over h place places
   sum-same g h e place [] = refl
   sum-same g h e place (None ∷ places) = sum-same g h e (place + 1) places
   sum-same g h e place (Some kept ∷ places) = omega (arith, e place, sum-same g h e (place + 1) places)
 
-  sum-zero : (place : ℕ) (places : List (Option (Kept K))) → sum_over (λ o. 0) place places ≡ 0
+  sum-zero : (place : ℕ) (places : List (Option (HeldObject K))) → sum_over (λ o. 0) place places ≡ 0
   sum-zero place [] = refl
   sum-zero place (None ∷ places) = sum-zero (place + 1) places
   sum-zero place (Some kept ∷ places) = omega (arith, sum-zero (place + 1) places)
 
   -- of one number
-  sum-past : (n place : ℕ) (places : List (Option (Kept K))) → n < 2 * place
+  sum-past : (n place : ℕ) (places : List (Option (HeldObject K))) → n < 2 * place
       → sum_over (λ o. if nat_eq n o then 1 else 0) place places ≡ 0
   sum-past n place [] l = refl
   sum-past n place (None ∷ places) l = sum-past n (place + 1) places (omega arith)
@@ -74,7 +74,7 @@ module _ {K : Type 0} where
       let s = differs n (2 * place) (λ e. omega arith) in
       rw s (omega (arith, sum-past n (place + 1) places (omega arith)))
 
-  sum-one : (n place : ℕ) (places : List (Option (Kept K)))
+  sum-one : (n place : ℕ) (places : List (Option (HeldObject K)))
       → sum_over (λ o. if nat_eq n o then 1 else 0) place places ≤ 1
   sum-one n place [] = omega arith
   sum-one n place (None ∷ places) = sum-one n (place + 1) places
@@ -85,7 +85,7 @@ module _ {K : Type 0} where
         | inr d ↦ let s = differs n (2 * place) d in rw s (omega (arith, sum-one n (place + 1) places))
       ]
 
-  sum-handles : (hs : List Handle) (place : ℕ) (places : List (Option (Kept K)))
+  sum-handles : (hs : List Handle) (place : ℕ) (places : List (Option (HeldObject K)))
       → sum_over (holders_on hs) place places ≤ length hs
   sum-handles [] place places = omega (arith, sum-zero place places)
   sum-handles (p ∷ hs) place places =
@@ -99,7 +99,7 @@ module _ {K : Type 0} where
         sum-handles hs place places,
       )
 
-  sum-holders : (ps : List Process) (place : ℕ) (places : List (Option (Kept K)))
+  sum-holders : (ps : List Process) (place : ℕ) (places : List (Option (HeldObject K)))
       → sum_over (all_holders_on ps) place places ≤ all_handles ps
   sum-holders [] place places = omega (arith, sum-zero place places)
   sum-holders (p ∷ ps) place places = by_life (is_alive p.life) refl (sum-holders ps place places)
@@ -121,7 +121,7 @@ module _ {K : Type 0} where
           rw e (omega (arith, split, rest))
 
   -- where each object is held, there are no more objects than handles
-  count-sum : (g : ℕ → ℕ) (place : ℕ) (places : List (Option (Kept K)))
+  count-sum : (g : ℕ → ℕ) (place : ℕ) (places : List (Option (HeldObject K)))
       → ((k : ℕ) → IsSome (slice_index_or places k None) → 0 < g (2 * (place + k)))
       → count_objects places ≤ sum_over g place places
   count-sum g place [] held = omega arith
@@ -137,7 +137,7 @@ module _ {K : Type 0} where
             (λ k some. subst (λ n. 0 < g (2 * n)) (omega arith) (held (suc k) some)),
       )
 
-  pub count-le : (ps : List Process) (places : List (Option (Kept K)))
+  pub count-le : (ps : List Process) (places : List (Option (HeldObject K)))
       → ((k : ℕ) → IsSome (slice_index_or places k None) → 0 < all_holders_on ps (2 * k))
       → count_objects places ≤ all_handles ps
   count-le ps places held =
@@ -148,7 +148,7 @@ module _ {K : Type 0} where
         sum-holders ps 0 places,
       )
 
-  pub length-objects : (f : K → Object) (place : ℕ) (places : List (Option (Kept K)))
+  pub length-objects : (f : K → Object) (place : ℕ) (places : List (Option (HeldObject K)))
       → length (objects_from f place places) ≡ count_objects places
   length-objects f place [] = refl
   length-objects f place (None ∷ places) = length-objects f (place + 1) places

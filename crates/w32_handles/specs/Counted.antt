@@ -1,10 +1,11 @@
 -- How many handles name an object, and that a table counts them.
-use Rattle.std.specs.Prelude.{◌≡◌, ℕ, ◌+◌, ◌*◌, if◌then◌else◌, List, [], ◌∷◌, Option, Some, None, length, slice_index_or}
+use Rattle.std.specs.Prelude.{◌≡◌, ℕ, ◌+◌, ◌*◌, if◌then◌else◌, List, [], ◌∷◌, Option, Some, None, length}
+use Rattle.std.specs.Prelude.{slice_index_or}
 use Rattle.win32_spec.specs.Handles.{Handle, holders_of}
 use Rattle.win32_spec.specs.State.{Process}
 use Rattle.win32_spec.specs.Lookup.{is_alive}
 use Rattle.win32_spec.specs.Pipes.{all_holders_of}
-use Rattle.w32_handles.specs.Table.{Kept}
+use Rattle.w32_handles.specs.Table.{HeldObject}
 
 -- how many handles of a list name the object with this even number, by any end or face
 abbrev pub holders_on : List Handle → ℕ → ℕ
@@ -20,12 +21,12 @@ all_handles [] = 0
 all_handles (p ∷ ps) = (if is_alive p.life then length p.handles else 0) + all_handles ps
 
 -- each object's count of holders is the number of the handles that name it
-abbrev pub AreCounted : {K : Type 0} → List Process → List (Option (Kept K)) → Type 0
+abbrev pub AreCounted : {K : Type 0} → List Process → List (Option (HeldObject K)) → Type 0
 AreCounted {K} ps places =
-    (k : ℕ) (kept : Kept K) → slice_index_or places k None ≡ Some kept → kept.holders ≡ all_holders_on ps (2 * k)
+    (k : ℕ) (kept : HeldObject K) → slice_index_or places k None ≡ Some kept → kept.holders ≡ all_holders_on ps (2 * k)
 
 -- how many places have an object
-abbrev pub count_objects : {K : Type 0} → List (Option (Kept K)) → ℕ
+abbrev pub count_objects : {K : Type 0} → List (Option (HeldObject K)) → ℕ
 count_objects [] = 0
 count_objects (None ∷ places) = count_objects places
 count_objects (Some kept ∷ places) = 1 + count_objects places

@@ -1,5 +1,6 @@
 -- Each change of a table of objects is a change of the objects that it shows.
-use Rattle.std.proofs.Common.{◌≡◌, ◌≢◌, inl, inr, ℕ, zero, suc, ◌*◌, ◌/◌, ◌%◌, List, [], ◌∷◌, Option, Some, None, IsSome}
+use Rattle.std.proofs.Common.{◌≡◌, ◌≢◌, inl, inr, ℕ, zero, suc, ◌*◌, ◌/◌, ◌%◌, List, [], ◌∷◌, Option, Some, None}
+use Rattle.std.proofs.Common.{IsSome}
 use Rattle.std.proofs.Common.{slice_index_or, slice_set, refl, sym, ap, ◌∙◌, subst, arith, true≢false}
 use Rattle.std.proofs.lemmas.Bool.{cases_eq}
 use Rattle.std.proofs.lemmas.List.{get_or-set_other}
@@ -9,9 +10,10 @@ use Rattle.win32_spec.specs.Ends.{object_left_by, objects_left_by}
 use Rattle.win32_spec.specs.ObjectLaws.{object_of-change_same, object_of-change_other, rising-change_object}
 use Rattle.win32_spec.specs.ObjectLaws.{object_of-add_new, object_of-add_other, rising-add_object, object_of-left}
 use Rattle.win32_spec.specs.ObjectLaws.{left_object, rising-left}
-use Rattle.w32_handles.specs.Table.{Kept, Table, object_at, Changes, instead, with_object}
+use Rattle.w32_handles.specs.Table.{HeldObject, Table, object_at, Changes, instead, with_object}
 use Rattle.w32_handles.specs.Shown.{object_shown, objects_of, without_object}
-use Rattle.w32_handles.specs.ShownLaws.{are_same, rising-objects, object_of-place, object_of-named, object_of-without_same}
+use Rattle.w32_handles.specs.ShownLaws.{are_same, rising-objects, object_of-place, object_of-named}
+use Rattle.w32_handles.specs.ShownLaws.{object_of-without_same}
 use Rattle.w32_handles.specs.ShownLaws.{object_of-without_other, rising-without_object}
 
 pub half : (k : ℕ) → 2 * k / 2 ≡ k
@@ -22,7 +24,8 @@ module _ {K : Type 0} where
   pub at_place : (t : Table K) (k : ℕ) → object_at t (2 * k) ≡ slice_index_or t.places k None
   at_place t k = ap (λ i. slice_index_or t.places i None) (half k)
 
-  place_within : (places : List (Option (Kept K))) (k : ℕ) (kept : Option (Kept K)) → IsSome (slice_index_or places k None)
+  place_within : (places : List (Option (HeldObject K))) (k : ℕ) (kept : Option (HeldObject K))
+      → IsSome (slice_index_or places k None)
       → slice_index_or (slice_set places k kept) k None ≡ kept
   place_within [] k kept some = absurd (true≢false (sym some))
   place_within (p ∷ places) zero kept some = refl
@@ -54,11 +57,11 @@ found-left w xs o = by_answer (object_of xs o) refl (object_of (objects_left_by 
 
 module _ {K : Type 0} (f : K → Object) where
   -- what is found by twice a place after a change: what was put there, or what stood there
-  found-here : (old new : Table K) (o : ℕ) (kept : Option (Kept K)) → Changes old new o kept
+  found-here : (old new : Table K) (o : ℕ) (kept : Option (HeldObject K)) → Changes old new o kept
       → object_of (objects_of f new.places) (object_number o) ≡ object_shown f kept
   found-here old new o kept c = object_of-named f new o ∙ ap (object_shown f) c.here
 
-  found-other : (old new : Table K) (o : ℕ) (kept : Option (Kept K)) → Changes old new o kept → (k : ℕ)
+  found-other : (old new : Table K) (o : ℕ) (kept : Option (HeldObject K)) → Changes old new o kept → (k : ℕ)
       → 2 * k ≢ object_number o
       → object_of (objects_of f new.places) (2 * k) ≡ object_of (objects_of f old.places) (2 * k)
   found-other old new o kept c k d =
@@ -68,7 +71,7 @@ module _ {K : Type 0} (f : K → Object) where
       ∙ sym (object_of-place f old.places k)
 
   -- an object that stays, whatever its count of holders
-  pub objects-stay : (old new : Table K) (o : ℕ) (kept : Option (Kept K)) → Changes old new o kept
+  pub objects-stay : (old new : Table K) (o : ℕ) (kept : Option (HeldObject K)) → Changes old new o kept
       → object_shown f kept ≡ object_shown f (object_at old o)
       → objects_of f new.places ≡ objects_of f old.places
   objects-stay old new o kept c stays =
@@ -84,7 +87,8 @@ module _ {K : Type 0} (f : K → Object) where
           ]
 
   -- an object that becomes another one
-  pub objects-change : (old new : Table K) (o : ℕ) (kept : Option (Kept K)) (x y : Object) → Changes old new o kept
+  pub objects-change : (old new : Table K) (o : ℕ) (kept : Option (HeldObject K)) (x y : Object)
+      → Changes old new o kept
       → object_shown f (object_at old o) ≡ Some x → object_shown f kept ≡ Some y
       → objects_of f new.places ≡ change_object (object_number o) y (objects_of f old.places)
   objects-change old new o kept x y c was is =
@@ -110,7 +114,7 @@ module _ {K : Type 0} (f : K → Object) where
           ]
 
   -- a new object
-  pub objects-add : (old new : Table K) (o : ℕ) (kept : Option (Kept K)) (y : Object) → Changes old new o kept
+  pub objects-add : (old new : Table K) (o : ℕ) (kept : Option (HeldObject K)) (y : Object) → Changes old new o kept
       → object_at old o ≡ None → object_shown f kept ≡ Some y
       → objects_of f new.places ≡ add_object (object_number o) y (objects_of f old.places)
   objects-add old new o kept y c free is =

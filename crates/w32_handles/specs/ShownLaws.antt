@@ -7,7 +7,7 @@ use Rattle.win32_spec.specs.Lookup.{object_number, object_of}
 use Rattle.win32_spec.specs.WellFormed.{AreRisingObjects}
 use Rattle.win32_spec.specs.LookupLaws.{same, differs, not_none}
 use Rattle.win32_spec.specs.ObjectLaws.{rising_objects-bound, rising_objects-lower}
-use Rattle.w32_handles.specs.Table.{Kept, Table, object_at}
+use Rattle.w32_handles.specs.Table.{HeldObject, Table, object_at}
 use Rattle.w32_handles.specs.Shown.{object_shown, objects_from, objects_of, without_object}
 
 -- two lists by rising numbers in which each number finds the same are one list
@@ -108,7 +108,7 @@ rising-without_object o low (x ∷ xs) r =
 
 -- The objects of a table.
 module _ {K : Type 0} (f : K → Object) where
-  rising-from : (place : ℕ) (places : List (Option (Kept K)))
+  rising-from : (place : ℕ) (places : List (Option (HeldObject K)))
       → AreRisingObjects (2 * place) (objects_from f place places)
   rising-from place [] = tt
   rising-from place (None ∷ places) =
@@ -121,10 +121,10 @@ module _ {K : Type 0} (f : K → Object) where
         (rising-from (place + 1) places),
   )
 
-  pub rising-objects : (places : List (Option (Kept K))) → AreRisingObjects 0 (objects_of f places)
+  pub rising-objects : (places : List (Option (HeldObject K))) → AreRisingObjects 0 (objects_of f places)
   rising-objects places = rising-from 0 places
 
-  object_of-from : (place k : ℕ) (places : List (Option (Kept K)))
+  object_of-from : (place k : ℕ) (places : List (Option (HeldObject K)))
       → object_of (objects_from f place places) (2 * (place + k)) ≡ object_shown f (slice_index_or places k None)
   object_of-from place k [] = refl
   object_of-from place zero (None ∷ places) =
@@ -141,7 +141,7 @@ module _ {K : Type 0} (f : K → Object) where
       rw (e, s) (object_of-from (place + 1) k places)
 
   -- the object of a place is found by twice that place
-  pub object_of-place : (places : List (Option (Kept K))) (k : ℕ)
+  pub object_of-place : (places : List (Option (HeldObject K))) (k : ℕ)
       → object_of (objects_of f places) (2 * k) ≡ object_shown f (slice_index_or places k None)
   object_of-place places k =
       let e : 2 * k ≡ 2 * (0 + k) = omega arith in rw e (object_of-from 0 k places)
@@ -152,7 +152,7 @@ module _ {K : Type 0} (f : K → Object) where
   object_of-named t o = object_of-place t.places (o / 2)
 
   -- an odd number is none of an object
-  pub object_of-odd : (places : List (Option (Kept K))) (o : ℕ) → object_number o ≢ o
+  pub object_of-odd : (places : List (Option (HeldObject K))) (o : ℕ) → object_number o ≢ o
       → object_of (objects_of f places) o ≡ None
   object_of-odd places o odd = by_answer (object_of (objects_of f places) o) refl
     where

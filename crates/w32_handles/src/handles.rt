@@ -1,7 +1,9 @@
 //! The handles of a process. A process has up to 64 of them, under numbers from 1 to 64.
 
-ghost use Rattle.std.specs.Prelude.{◌≡◌, ℕ, ◌+◌, ◌<◌, ◌↔◌, [], length, All, IsTrue, IsErr, IsOk, IsSome, IfOk, OnErr, OnOk, MatchOption, Some, None, slice_index_or};
-ghost use Rattle.win32_spec.specs.Handles.{handle_of, with_handle, without_handle, listed_handles, holders_of, IsLowestFree, AreRisingFrom};
+ghost use Rattle.std.specs.Prelude.{◌≡◌, ℕ, ◌+◌, ◌<◌, ◌↔◌, [], length, All, IsTrue, IsErr, IsOk, IsSome, IfOk, OnErr};
+ghost use Rattle.std.specs.Prelude.{OnOk, MatchOption, Some, None, slice_index_or};
+ghost use Rattle.win32_spec.specs.Handles.{handle_of, with_handle, without_handle, listed_handles, holders_of};
+ghost use Rattle.win32_spec.specs.Handles.{IsLowestFree, AreRisingFrom};
 
 use std::marker::Model;
 use w32_base::{HandleList, HandleNo, ObjectNo};
@@ -158,7 +160,9 @@ fn place_of(handle: HandleNo) -> usize
 
 // The lowest place with nothing in it.
 fn lowest_free(places: &[Option<ObjectNo>]) -> Option<usize>
-    ensures { MatchOption result (All (λ place. IsSome place) places.now) (λ free. (free < length places.now) × (slice_index_or places.now free None ≡ None) × ((k : ℕ) → k < free → IsSome (slice_index_or places.now k None))) }
+    ensures { MatchOption result (All (λ place. IsSome place) places.now) (λ free. (free < length places.now)
+        × (slice_index_or places.now free None ≡ None)
+        × ((k : ℕ) → k < free → IsSome (slice_index_or places.now k None))) }
 {
     for (number, place) in places.iter().enumerate() {
         if place.is_none() {

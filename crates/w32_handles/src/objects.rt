@@ -14,16 +14,16 @@ const MOST_OBJECTS: usize = 2_147_483_648;
 
 /// An object and how many holders it has, one at least.
 #[derive(Drop)]
-struct Held<K> {
+struct HeldObject<K> {
     object: K,
     holders: u16,
 }
 
-impl<K> Model for Held<K> {
+impl<K> Model for HeldObject<K> {
     ghost use Rattle.std.specs.Prelude.{◌<◌};
-    ghost use Rattle.w32_handles.specs.Table.{Kept, kept_code};
+    ghost use Rattle.w32_handles.specs.Table.{HeldObject, kept_code};
 
-    ghost Value = { Kept K };
+    ghost Value = { HeldObject K };
 
     ghost coded = { kept_code K.code };
 
@@ -32,7 +32,7 @@ impl<K> Model for Held<K> {
     ghost invariant = { λ h. 0 < h.holders };
 }
 
-impl<K> Held<K> {
+impl<K> HeldObject<K> {
     ghost use Rattle.w32_handles.specs.Lends.{lends_held};
 
     // The object.
@@ -56,7 +56,7 @@ impl<K> Held<K> {
 /// with an object and its holders or nothing, and the number of further objects that it has room for.
 #[derive(Drop)]
 pub struct Objects<K> {
-    slab: Slab<Held<K>>,
+    slab: Slab<HeldObject<K>>,
     spare: usize,
 }
 
@@ -99,7 +99,7 @@ impl<K: Drop> Objects<K> {
         ensures added { Changes self.old self.new result (Some (record { object = k; holders = 1 })) }
         ensures spare { self.new.spare + 1 ≡ self.old.spare }
     {
-        let place = self.slab.insert_reserved(Held {
+        let place = self.slab.insert_reserved(HeldObject {
             object: k,
             holders: 1,
         });

@@ -9,7 +9,7 @@ use Rattle.win32_spec.specs.Lookup.{object_number, object_of, change_object, wit
 use Rattle.win32_spec.specs.Named.{named_by, number_or_zero, object_number_by, object_at, object_by}
 use Rattle.win32_spec.specs.WellFormed.{IsListed, IsWellFormed}
 use Rattle.win32_spec.specs.FormedLaws.{from_listed}
-use Rattle.w32_handles.specs.Table.{Kept, Table, instead}
+use Rattle.w32_handles.specs.Table.{HeldObject, Table, instead}
 use Rattle.w32_handles.specs.Table as table
 use Rattle.w32_handles.specs.Shown.{object_shown, objects_of}
 use Rattle.w32_handles.specs.ShownLaws.{object_of-named}
@@ -31,8 +31,8 @@ KeepsKind x y = (slots : List Place) (ps : List Process) (section o : ℕ) → I
     → IsKind slots ps section o y
 
 -- what was lent is what stands there
-pub lent : (o : Option (Kept Kind)) (x : Kind) → IsSomeAnd o (λ kept. kept.object ≡ x)
-    → (kept : Kept Kind) × (o ≡ Some kept) × (kept.object ≡ x)
+pub lent : (o : Option (HeldObject Kind)) (x : Kind) → IsSomeAnd o (λ kept. kept.object ≡ x)
+    → (kept : HeldObject Kind) × (o ≡ Some kept) × (kept.object ≡ x)
 lent (Some kept) x e = (kept, refl, e)
 lent None x e = absurd e
 
@@ -53,11 +53,11 @@ module _ (m : Inside) (sound : IsSound m) (now : Running) (shows : view_of m ≡
   listed = (its_facts m sound by.slot by.process at).naming h o
       (ap (λ hs. handle_of hs h) (sym (handles_at m sound by.slot by.process at)) ∙ named_here)
 
-  pub stands : (kept : Kept Kind) × (table.object_at m.objects o ≡ Some kept)
+  pub stands : (kept : HeldObject Kind) × (table.object_at m.objects o ≡ Some kept)
   stands = by_answer (table.object_at m.objects o) refl
     where
-      by_answer : (found : Option (Kept Kind)) → table.object_at m.objects o ≡ found
-          → (kept : Kept Kind) × (table.object_at m.objects o ≡ Some kept)
+      by_answer : (found : Option (HeldObject Kind)) → table.object_at m.objects o ≡ found
+          → (kept : HeldObject Kind) × (table.object_at m.objects o ≡ Some kept)
       by_answer (Some kept) e = (kept, e)
       by_answer None e =
           let f = from_listed (view_of m).win32.objects o listed in
@@ -72,7 +72,7 @@ module _ (m : Inside) (sound : IsSound m) (now : Running) (shows : view_of m ≡
 
   -- the object that was lent
   module _ (x : Kind) (was : IsSomeAnd (table.object_at m.objects o) (λ kept. kept.object ≡ x)) where
-    it : (kept : Kept Kind) × (table.object_at m.objects o ≡ Some kept) × (kept.object ≡ x)
+    it : (kept : HeldObject Kind) × (table.object_at m.objects o ≡ Some kept) × (kept.object ≡ x)
     it = lent (table.object_at m.objects o) x was
 
     shown_at : object_shown shown (table.object_at m.objects o) ≡ Some (shown x)
@@ -135,7 +135,7 @@ module _ (m : Inside) (sound : IsSound m) (now : Running) (shows : view_of m ≡
                 length-change (object_number o) (shown y) now.win32.objects,
               )
 
-          held_after : (a : ℕ) (kept : Kept Kind) → table.object_at changed.objects a ≡ Some kept
+          held_after : (a : ℕ) (kept : HeldObject Kind) → table.object_at changed.objects a ≡ Some kept
               → IsHeld m.processes.slots (view_of m).win32.processes m.section (object_number a) kept
           held_after a kept e =
               elim (cases_eq (a / 2) (o / 2)) [

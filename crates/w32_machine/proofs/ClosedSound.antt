@@ -12,7 +12,7 @@ use Rattle.win32_spec.specs.Pipes.{all_holders_of}
 use Rattle.win32_spec.specs.WellFormed.{IsWellFormed}
 use Rattle.win32_spec.specs.LookupLaws.{same, differs, before, not_before}
 use Rattle.win32_spec.specs.KeepLaws.{wellformed-closed}
-use Rattle.w32_handles.specs.Table.{Kept, Table, object_at, freed}
+use Rattle.w32_handles.specs.Table.{HeldObject, Table, object_at, freed}
 use Rattle.w32_handles.specs.Shown.{object_shown, objects_of}
 use Rattle.w32_handles.specs.ShownLaws.{rising-objects}
 use Rattle.w32_handles.specs.PlaceLaws.{objects-stay, objects-drop}
@@ -54,7 +54,7 @@ module _ (m : Inside) (sound : IsSound m) (slot w : ℕ) (stands : number_at m.p
   abbrev after : Inside
   after = closed m sound slot w stands k o named left leaves spare went is forgot forgets
 
-  abbrev it : Kept Kind
+  abbrev it : HeldObject Kind
   it = (there m sound slot w stands k o named).0
 
   abbrev less : List Process
@@ -192,7 +192,7 @@ module _ (m : Inside) (sound : IsSound m) (slot w : ℕ) (stands : number_at m.p
             )
       ]
 
-  held_here : (kept : Kept Kind) → object_at left o ≡ Some kept
+  held_here : (kept : HeldObject Kind) → object_at left o ≡ Some kept
       → IsHeld forgot.slots (view_of after).win32.processes m.section n kept
   held_here kept e =
       elim (cases_lt 1 it.holders) [
@@ -211,7 +211,7 @@ module _ (m : Inside) (sound : IsSound m) (slot w : ℕ) (stands : number_at m.p
             absurd (cc)
       ]
 
-  held_after : (a : ℕ) (kept : Kept Kind) → object_at left a ≡ Some kept
+  held_after : (a : ℕ) (kept : HeldObject Kind) → object_at left a ≡ Some kept
       → IsHeld forgot.slots (view_of after).win32.processes m.section (object_number a) kept
   held_after a kept e =
       elim (cases_eq (a / 2) (o / 2)) [

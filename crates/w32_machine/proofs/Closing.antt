@@ -11,7 +11,7 @@ use Rattle.win32_spec.specs.Pipes.{all_holders_of}
 use Rattle.win32_spec.specs.WellFormed.{IsListed}
 use Rattle.win32_spec.specs.LookupLaws.{same, differs, before, not_before}
 use Rattle.win32_spec.specs.FormedLaws.{from_listed}
-use Rattle.w32_handles.specs.Table.{Kept, Table, object_at, Changes, freed}
+use Rattle.w32_handles.specs.Table.{HeldObject, Table, object_at, Changes, freed}
 use Rattle.w32_handles.specs.Shown.{object_shown, objects_of, without_object}
 use Rattle.w32_handles.specs.ShownLaws.{object_of-named}
 use Rattle.w32_handles.specs.PlaceLaws.{objects-stay, objects-drop}
@@ -67,11 +67,11 @@ module _ (m : Inside) (sound : IsSound m) (slot w : ℕ) (stands : number_at m.p
   listed : IsListed (view_of m).win32.objects o
   listed = (its_facts m sound slot w stands).naming k o named
 
-  pub there : (kept : Kept Kind) × (object_at m.objects o ≡ Some kept)
+  pub there : (kept : HeldObject Kind) × (object_at m.objects o ≡ Some kept)
   there = by_answer (object_at m.objects o) refl
     where
-      by_answer : (it : Option (Kept Kind)) → object_at m.objects o ≡ it
-          → (kept : Kept Kind) × (object_at m.objects o ≡ Some kept)
+      by_answer : (it : Option (HeldObject Kind)) → object_at m.objects o ≡ it
+          → (kept : HeldObject Kind) × (object_at m.objects o ≡ Some kept)
       by_answer (Some kept) e = (kept, e)
       by_answer None e =
           let f = from_listed (view_of m).win32.objects o listed in
@@ -101,7 +101,7 @@ module _ (m : Inside) (sound : IsSound m) (slot w : ℕ) (stands : number_at m.p
 
   pub has-holder : HasHolder m.objects o
   has-holder =
-      subst (λ (it : Option (Kept Kind)). IsSomeAnd it (λ kept. 0 < ends_on kept.object (end_by o))) (sym there.1)
+      subst (λ (it : Option (HeldObject Kind)). IsSomeAnd it (λ kept. 0 < ends_on kept.object (end_by o))) (sym there.1)
       (by_kind there.0.object its_held.kind)
     where
       by_kind : (x : Kind) → IsKind m.processes.slots ps m.section (object_number o) x → 0 < ends_on x (end_by o)

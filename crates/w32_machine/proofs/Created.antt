@@ -16,7 +16,7 @@ use Rattle.win32_spec.specs.Lookup.{with_handles}
 use Rattle.win32_spec.specs.Making.{opening_call, new_process}
 use Rattle.win32_spec.specs.ProcessCalls.{with_made, IsMade}
 use Rattle.win32_spec.specs.LookupLaws.{before, not_before}
-use Rattle.w32_handles.specs.Table.{Kept, Table, object_at, Changes}
+use Rattle.w32_handles.specs.Table.{HeldObject, Table, object_at, Changes}
 use Rattle.w32_handles.specs.Shown.{object_shown, objects_of}
 use Rattle.w32_handles.specs.ShownLaws.{are_same, rising-objects, object_of-place}
 use Rattle.w32_handles.specs.PlaceLaws.{at_place, objects-add, is_fresh}
@@ -35,7 +35,7 @@ use Rattle.w32_machine.specs.Sound.{IsSound}
 use Rattle.w32_machine.specs.Creating.{kind_with, kept_with, HoldsEach, opened}
 use Rattle.w32_machine.proofs.Slots.{handles_at}
 
-shown-with : (a b : ℕ) (x : Option (Kept Kind)) → object_shown shown (kept_with a b x) ≡ object_shown shown x
+shown-with : (a b : ℕ) (x : Option (HeldObject Kind)) → object_shown shown (kept_with a b x) ≡ object_shown shown x
 shown-with a b None = refl
 shown-with a b (Some kept) = ap Some (by_kind kept.object)
   where
@@ -160,7 +160,7 @@ module _ (m : Inside) (sound : IsSound m) (at_slot w : ℕ) (stands : number_at 
         pub free : object_at m.objects o ≡ None
         free = by_answer (object_at m.objects o) refl
           where
-            by_answer : (x : Option (Kept Kind)) → object_at m.objects o ≡ x → x ≡ None
+            by_answer : (x : Option (HeldObject Kind)) → object_at m.objects o ≡ x → x ≡ None
             by_answer None e = refl
             by_answer (Some was) e =
                 let f = holds o ∙ ap (kept_with (holders_of listed (object_number o))

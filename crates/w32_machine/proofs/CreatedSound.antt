@@ -21,8 +21,8 @@ use Rattle.win32_spec.specs.WellFormed.{IsWellFormed}
 use Rattle.win32_spec.specs.LookupLaws.{same, differs, not_none, process_of-add_kept}
 use Rattle.win32_spec.specs.LookupLaws.{rising-add_process}
 use Rattle.win32_spec.specs.HolderLaws.{all_holders-change}
-use Rattle.win32_spec.specs.KeepLaws.{wellformed-made}
-use Rattle.w32_handles.specs.Table.{Kept, Table, object_at, Changes}
+use Rattle.win32_spec.specs.NewProcessLaws.{wellformed-made}
+use Rattle.w32_handles.specs.Table.{HeldObject, Table, object_at, Changes}
 use Rattle.w32_handles.specs.Shown.{object_shown, objects_of}
 use Rattle.w32_handles.specs.ShownLaws.{object_of-named}
 use Rattle.w32_handles.specs.CountLaws.{all_holders-add, all_holders-open}
@@ -181,7 +181,7 @@ module _ (m : Inside) (sound : IsSound m) (at_slot w : ℕ) (stands : number_at 
         ]
         kind_after a (kind.Terminal terminal) is d k = tt
 
-        held_after : (a : ℕ) (kept : Kept Kind) → object_at m'.objects a ≡ Some kept
+        held_after : (a : ℕ) (kept : HeldObject Kind) → object_at m'.objects a ≡ Some kept
             → IsHeld m'.processes.slots (view_of m').win32.processes m'.section (object_number a) kept
         held_after a kept e =
             elim (cases_eq (a / 2) (o / 2)) [
@@ -208,7 +208,7 @@ module _ (m : Inside) (sound : IsSound m) (at_slot w : ℕ) (stands : number_at 
               | inr d ↦ by_old d (object_at m.objects a) refl (sym (holds a) ∙ sym (added.others a d) ∙ e)
             ]
           where
-            by_old : a / 2 ≢ o / 2 → (x : Option (Kept Kind)) → object_at m.objects a ≡ x
+            by_old : a / 2 ≢ o / 2 → (x : Option (HeldObject Kind)) → object_at m.objects a ≡ x
                 → kept_with (holders_of listed (object_number a)) (holders_of listed (object_number a + 1))
                 (object_at m.objects a) ≡ Some kept
                 → IsHeld m'.processes.slots (view_of m').win32.processes m'.section (object_number a) kept

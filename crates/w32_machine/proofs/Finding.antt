@@ -5,12 +5,12 @@ use Rattle.win32_spec.specs.State.{Object}
 use Rattle.win32_spec.specs.ProcessCalls.{process_object}
 use Rattle.w32_handles.specs.PlaceLaws.{at_place}
 use Rattle.w32_handles.specs.Shown.{object_shown, objects_from, objects_of}
-use Rattle.w32_handles.specs.Table.{Kept, Table, object_at}
+use Rattle.w32_handles.specs.Table.{HeldObject, Table, object_at}
 use Rattle.w32_machine.specs.Handing.{is_its_object}
 
 module _ {K : Type 0} (f : K → Object) (w : ℕ) where
   -- the first object that is that of a process
-  first-from : (place n : ℕ) (places : List (Option (Kept K)))
+  first-from : (place n : ℕ) (places : List (Option (HeldObject K)))
       → ((k : ℕ) → k < n → is_its_object (object_shown f (slice_index_or places k None)) w ≡ false)
       → is_its_object (object_shown f (slice_index_or places n None)) w ≡ true
       → process_object (objects_from f place places) w ≡ Some (2 * (place + n))
@@ -25,7 +25,7 @@ module _ {K : Type 0} (f : K → Object) (w : ℕ) where
       rw s (first-from (place + 1) n places (λ k l. before (suc k) (omega arith)) here
       ∙ ap (λ i. Some (2 * i)) (omega arith))
 
-  none-from : (place : ℕ) (places : List (Option (Kept K)))
+  none-from : (place : ℕ) (places : List (Option (HeldObject K)))
       → ((k : ℕ) → is_its_object (object_shown f (slice_index_or places k None)) w ≡ false)
       → process_object (objects_from f place places) w ≡ None
   none-from place [] none = refl

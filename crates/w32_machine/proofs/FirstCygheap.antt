@@ -37,7 +37,8 @@ cygheap-written placed old set bytes new n m zeros version is_n is_m are written
     front =
         let e : m + 1 ≡ suc m = omega arith in
         ap (λ k. take {A = ℕ} k (1 ∷ replicate n 0)) e
-        ∙ ap (λ (xs : List ℕ). 1 ∷ xs) (zeros-before m n (omega (arith, is_n, is_m)) ∙ ap (λ k. replicate {A = ℕ} k 0) is_m)
+        ∙ ap (λ (xs : List ℕ). 1 ∷ xs)
+        (zeros-before m n (omega (arith, is_n, is_m)) ∙ ap (λ k. replicate {A = ℕ} k 0) is_m)
 
     back : drop {A = ℕ} (m + 1 + length bytes) (1 ∷ replicate n 0) ≡ replicate (148 - length (base_bytes placed)) 0
     back =

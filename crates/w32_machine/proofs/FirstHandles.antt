@@ -10,7 +10,8 @@ has : (k : ℕ) (hs : List Handle) (n : ℕ) → IsRow k hs → k ≤ n → n < 
 has k [] n row l m = absurd (omega (arith, l, m))
 has k (h ∷ hs) n row l m = elim (cases_eq h.number n) [
   | inl e ↦ let s = same h.number n e in rw s refl
-  | inr d ↦ let s = differs h.number n d in rw s (has (k + 1) hs n row.1 (omega (arith, l, d, row.0)) (omega (arith, m)))
+  | inr d ↦ let s = differs h.number n d in
+      rw s (has (k + 1) hs n row.1 (omega (arith, l, d, row.0)) (omega (arith, m)))
 ]
 
 lacks : (k : ℕ) (hs : List Handle) (n : ℕ) → IsRow k hs → k + length hs ≤ n → handle_of hs n ≡ None

@@ -11,7 +11,7 @@ use Rattle.win32_spec.specs.Opening.{opening_words, OpeningNumbers, opening_host
 use Rattle.win32_spec.specs.Pipes.{all_holders_of}
 use Rattle.win32_spec.specs.State.{Object, Section, Event, Mutex, Pipe, ProcessObject, TerminalObject, PlacedModule}
 use Rattle.win32_spec.specs.State.{Process}
-use Rattle.w32_handles.specs.Table.{Kept, Table, object_at}
+use Rattle.w32_handles.specs.Table.{HeldObject, Table, object_at}
 use Rattle.w32_process.specs.Places.{Place}
 use Rattle.w32_process.specs.Table.{number_at}
 use Rattle.w32_machine.specs.declared.kind.Kind.{Kind}
@@ -32,7 +32,8 @@ is-none : (x q : ℕ) → x ≢ q → one x q ≡ 0
 is-none x q d = let s = differs x q d in rw s refl
 
 -- the numbers of an object, by either end or face
-two-even : (x o : ℕ) → object_number x ≡ x → one x (object_number o) + one x (object_number o + 1) ≡ one x (object_number o)
+two-even : (x o : ℕ) → object_number x ≡ x
+    → one x (object_number o) + one x (object_number o + 1) ≡ one x (object_number o)
 two-even x o even = omega (arith, is-none x (object_number o + 1) (λ e. omega (arith, e, even)))
 
 two-odd : (x o : ℕ) → object_number x ≡ x
@@ -61,7 +62,8 @@ Fits slots section slot o (Pipe bytes) = ⊥
 Fits slots section slot o (ProcessObject w) = (k : ℕ) → number_at slots k ≡ Some w → k ≡ slot
 Fits slots section slot o (TerminalObject terminal) = Unit {0}
 
-fits-kind : (slots : List Place) (ps : List Process) (section o : ℕ) (x : Kind) → Fits slots section (slot_of x) o (shown x)
+fits-kind : (slots : List Place) (ps : List Process) (section o : ℕ) (x : Kind)
+    → Fits slots section (slot_of x) o (shown x)
     → IsKind slots ps section o x
 fits-kind slots ps section o (kind.Section words) fits = fits
 fits-kind slots ps section o (kind.Event e) fits = tt
@@ -75,7 +77,7 @@ pub record IsShownHeld (slots : List Place) (ps : List Process) (section o : ℕ
   pub holders : x.2 ≡ all_holders_of ps o + all_holders_of ps (o + 1)
   pub fits : Fits slots section x.1 o x.0
 
-shown-held : (slots : List Place) (ps : List Process) (section o : ℕ) (kept : Kept Kind)
+shown-held : (slots : List Place) (ps : List Process) (section o : ℕ) (kept : HeldObject Kind)
     → IsShownHeld slots ps section o (shown kept.object, slot_of kept.object, kept.holders)
     → IsHeld slots ps section o kept
 shown-held slots ps section o kept h =
@@ -196,7 +198,8 @@ module _ (n : Numbers) (program : Program) (placed : List PlacedModule) (slots :
   ]
 
   pub first-held : (t : Table Kind) → ((o : ℕ) → kept_shown (object_at t o) ≡ opening_at n o)
-      → (o : ℕ) (kept : Kept Kind) → object_at t o ≡ Some kept → IsHeld slots both n.section (object_number o) kept
+      → (o : ℕ) (kept : HeldObject Kind) → object_at t o ≡ Some kept
+      → IsHeld slots both n.section (object_number o) kept
   first-held t holds o kept at =
       shown-held slots both n.section (object_number o) kept
       (opening-held o (shown kept.object, slot_of kept.object, kept.holders) (sym (holds o) ∙ ap kept_shown at))

@@ -7,12 +7,12 @@ use Rattle.win32_spec.specs.LookupLaws.{same, differs}
 use Rattle.win32_spec.specs.Objects.{Free}
 use Rattle.win32_spec.specs.Opening.{opening_words}
 use Rattle.win32_spec.specs.State.{Section, Mutex, ProcessObject, TerminalObject}
-use Rattle.w32_handles.specs.Table.{Kept, Table, object_at, Changes, one_more}
+use Rattle.w32_handles.specs.Table.{HeldObject, Table, object_at, Changes, one_more}
 use Rattle.w32_machine.specs.declared.kind.Kind.{Kind}
 use Rattle.w32_machine.specs.declared.machine.opening.numbers.Numbers.{Numbers}
 use Rattle.w32_machine.specs.Opened.{kept_shown, opening_at}
 
-abbrev new : Kind → Option (Kept Kind)
+abbrev new : Kind → Option (HeldObject Kind)
 new x = Some (record { object = x; holders = 1 })
 
 at : (t : Table Kind) (o p : ℕ) → o / 2 ≡ p / 2 → object_at t o ≡ object_at t p
@@ -43,13 +43,15 @@ module _ (n : Numbers) (t0 t1 t2 t3 t4 t5 t6 t7 : Table Kind) (xa xb xc xd : Kin
         h3.others o (λ f. omega (arith, ab, bc, e, f)) ∙ h2.others o (λ f. omega (arith, ab, e, f))
         ∙ at t5 o n.section e ∙ h1.here
         ∙ ap one_more (s4.others n.section (λ f. omega (arith, ab, bc, cd, f))
-        ∙ s3.others n.section (λ f. omega (arith, ab, bc, f)) ∙ s2.others n.section (λ f. omega (arith, ab, f)) ∙ s1.here)
+        ∙ s3.others n.section (λ f. omega (arith, ab, bc, f)) ∙ s2.others n.section (λ f. omega (arith, ab, f))
+        ∙ s1.here)
         ) ∙ fa)
     | inr i ↦ elim (cases_eq (o / 2) (n.mutex / 2)) [
       | inl e ↦ let r = differs (o / 2) (n.section / 2) i in let s = same (o / 2) (n.mutex / 2) e in
           rw (r, s) (ap kept_shown (
           h3.others o (λ f. omega (arith, bc, e, f)) ∙ at t6 o n.mutex e ∙ h2.here
-          ∙ ap one_more (h1.others n.mutex (λ f. omega (arith, ab, f)) ∙ s4.others n.mutex (λ f. omega (arith, bc, cd, f))
+          ∙ ap one_more (h1.others n.mutex (λ f. omega (arith, ab, f))
+          ∙ s4.others n.mutex (λ f. omega (arith, bc, cd, f))
           ∙ s3.others n.mutex (λ f. omega (arith, bc, f)) ∙ s2.here)
           ) ∙ fb)
       | inr j ↦ elim (cases_eq (o / 2) (n.terminal / 2)) [

@@ -49,7 +49,8 @@ module _ {P : Type 0} (posted_of : P → Call) (goes : P → Own → Setup → R
     places = omega (arith, length-append parts (part ∷ []), below.places);
     opened = λ k l. elim (cases_eq k n) [
       | inl e ↦
-          subst (Opens (k / 3) (k % 3)) (sym (ap (part_in_place (parts ++ part ∷ [])) (e ∙ sym below.places) ∙ comes part parts))
+          subst (Opens (k / 3) (k % 3))
+          (sym (ap (part_in_place (parts ++ part ∷ [])) (e ∙ sym below.places) ∙ comes part parts))
           (subst (λ j. Opens j (k % 3) part) (at_slot ∙ ap (λ i. i / 3) (sym e))
           (subst (λ u. Opens slot u part) (at_thread ∙ ap (λ i. i % 3) (sym e)) opens))
       | inr d ↦ subst (Opens (k / 3) (k % 3)) (sym (stays part parts k (omega (arith, d, l, below.places))))

@@ -64,9 +64,11 @@ pub opened-processes : (slots slot r : ℕ) (host handles : List Handle) (progra
     → ((place_at t3.slots slot).own.cyg ≡ replicate 288 0)
     × ((own : Own) (cyg : List ℕ) → own ≡ (place_at t3.slots slot).own → cyg ≡ opening_cygheap placed
     → with_own t3 slot (record own { cyg = cyg }) ≡ opened_table slots numbers program placed)
-opened-processes zero slot r host handles program t0 t2 t3 numbers placed z u zi ui some opened lowest made count resume hh kk =
+opened-processes zero slot r host handles program t0 t2 t3 numbers placed z u zi ui some opened lowest made count resume
+    hh kk =
     absurd (omega (arith, some))
-opened-processes (suc n) slot r host handles program t0 t2 t3 numbers placed z u zi ui some opened lowest made count resume
+opened-processes (suc n) slot r host handles program t0 t2 t3 numbers placed z u zi ui some opened lowest made count
+    resume
     hh kk =
     let low = subst (λ k. IsLowestEmpty (with_handles t0 k host).slots slot) zi lowest in
     let s = three n slot r host handles program t0 t2 t3 opened low

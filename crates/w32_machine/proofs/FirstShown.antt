@@ -1,6 +1,7 @@
 -- What the tables show as a run begins: the opening objects, and the two processes.
 use Rattle.std.proofs.Common.{◌≡◌, ◌∙◌, inl, inr, ℕ, zero, suc, ◌+◌, ◌-◌, ◌*◌, ◌/◌, Bool, true, false, nat_lt}
-use Rattle.std.proofs.Common.{if◌then◌else◌, List, [], ◌∷◌, replicate, Option, Some, None, slice_index_or, refl, sym, ap}
+use Rattle.std.proofs.Common.{if◌then◌else◌, List, [], ◌∷◌, replicate, Option, Some, None, slice_index_or, refl, sym}
+use Rattle.std.proofs.Common.{ap}
 use Rattle.std.proofs.Common.{arith}
 use Rattle.std.proofs.lemmas.Bool.{cases_eq}
 use Rattle.w32_base.specs.declared.call.Call.{Call}
@@ -13,7 +14,7 @@ use Rattle.win32_spec.specs.State.{Object, PlacedModule}
 use Rattle.win32_spec.specs.WellFormed.{AreRisingObjects}
 use Rattle.w32_handles.specs.Shown.{object_shown, objects_of}
 use Rattle.w32_handles.specs.ShownLaws.{rising-objects, object_of-place, are_same}
-use Rattle.w32_handles.specs.Table.{Kept, Table, object_at}
+use Rattle.w32_handles.specs.Table.{HeldObject, Table, object_at}
 use Rattle.w32_process.specs.Places.{empty_place}
 use Rattle.w32_process.specs.Processes.{with_processes_from, processes_of}
 use Rattle.w32_machine.specs.declared.kind.Kind.{Kind}
@@ -26,7 +27,7 @@ abbrev object_part : Option (Object × ℕ × ℕ) → Option Object
 object_part None = None
 object_part (Some x) = Some x.0
 
-its_object : (o : Option (Kept Kind)) → object_shown shown o ≡ object_part (kept_shown o)
+its_object : (o : Option (HeldObject Kind)) → object_shown shown o ≡ object_part (kept_shown o)
 its_object None = refl
 its_object (Some kept) = refl
 

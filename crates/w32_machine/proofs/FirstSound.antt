@@ -15,7 +15,7 @@ use Rattle.win32_spec.specs.OpeningLaws.{wellformed-opening}
 use Rattle.win32_spec.specs.State.{PlacedModule, Process, NumberedObject, Win32State}
 use Rattle.win32_spec.specs.WellFormed.{IsWellFormed}
 use Rattle.w32_handles.specs.Shown.{objects_of}
-use Rattle.w32_handles.specs.Table.{Kept, object_at}
+use Rattle.w32_handles.specs.Table.{HeldObject, object_at}
 use Rattle.w32_process.specs.Places.{Place, empty_place}
 use Rattle.w32_process.specs.Processes.{processes_of}
 use Rattle.w32_process.specs.Sound as processes
@@ -152,10 +152,11 @@ module _ (script : Script) (n : Numbers) (placed : List PlacedModule) (m : Insid
 
   second : (k : ℕ) → number_at m.processes.slots k ≡ Some 2 → k ≡ 1
   second k e =
-      second-alone (opened_host (opening_numbers n)) (opened_place (opening_numbers n) program placed) (slots - 1) k refl
+      second-alone (opened_host (opening_numbers n)) (opened_place (opening_numbers n) program placed) (slots - 1) k
+      refl
       (ap (λ (t : process_table.Table). number_at t.slots k) (sym first.table.table) ∙ e)
 
-  held : (o : ℕ) (kept : Kept Kind) → object_at m.objects o ≡ Some kept
+  held : (o : ℕ) (kept : HeldObject Kind) → object_at m.objects o ≡ Some kept
       → IsHeld m.processes.slots (view_of m).win32.processes m.section (object_number o) kept
   held o kept at =
       subst (λ section. IsHeld m.processes.slots (view_of m).win32.processes section (object_number o) kept)
@@ -184,7 +185,7 @@ module _ (script : Script) (n : Numbers) (placed : List PlacedModule) (m : Insid
   }
 
   -- the same of the tables as the code has them
-  pub is-opening-by : (t : process_table.Table) (places : List (Option (Kept Kind))) → t ≡ m.processes
+  pub is-opening-by : (t : process_table.Table) (places : List (Option (HeldObject Kind))) → t ≡ m.processes
       → places ≡ m.objects.places
       → IsOpening script (record {
         processes = processes_of (posted_in m.posted.items) (placed_in m.placed.items) t;

@@ -23,7 +23,7 @@ use Rattle.w32_handles.specs.CountLaws.{all_holders-open, is_on}
 use Rattle.w32_handles.specs.Shown.{object_shown, objects_of}
 use Rattle.w32_handles.specs.ShownLaws.{object_of-named}
 use Rattle.w32_handles.specs.PlaceLaws.{objects-stay}
-use Rattle.w32_handles.specs.Table.{Kept, Table, object_at, Changes}
+use Rattle.w32_handles.specs.Table.{HeldObject, Table, object_at, Changes}
 use Rattle.w32_process.specs.ChangeLaws.{processes-with_handles}
 use Rattle.w32_process.specs.Places.{Place}
 use Rattle.w32_process.specs.RoomLaws.{holders-room}
@@ -130,11 +130,11 @@ module _ (m : Inside) (sound : IsSound m) (now : Running) (shows : view_of m ≡
 
   -- what a listed number names is in the table, and may be held once more
   pub kept-at : (names : ℕ) → IsListed now.win32.objects names
-      → (kept : Kept Kind) × (object_at m.objects names ≡ Some kept)
+      → (kept : HeldObject Kind) × (object_at m.objects names ≡ Some kept)
   kept-at names listed = by_answer (object_at m.objects names) refl
     where
-      by_answer : (o : Option (Kept Kind)) → object_at m.objects names ≡ o
-          → (kept : Kept Kind) × (object_at m.objects names ≡ Some kept)
+      by_answer : (o : Option (HeldObject Kind)) → object_at m.objects names ≡ o
+          → (kept : HeldObject Kind) × (object_at m.objects names ≡ Some kept)
       by_answer (Some kept) e = (kept, e)
       by_answer None e =
           let f = from_listed now.win32.objects names listed in
@@ -206,7 +206,7 @@ module _ (m : Inside) (sound : IsSound m) (now : Running) (shows : view_of m ≡
         (with_handle (handles_by now.win32 by.process) h names)) shows
 
     -- they stay sound, by the object that the handle names
-    pub handed-sound : (kept : Kept Kind) → Changes m.objects objects names (Some kept)
+    pub handed-sound : (kept : HeldObject Kind) → Changes m.objects objects names (Some kept)
         → IsHeld handed.processes.slots (view_of handed).win32.processes m.section (object_number names) kept
         → 4160 ≤ length (objects_of shown objects.places) + objects.spare
         → IsWellFormed m.script (view_of handed).win32 → IsSound handed
@@ -223,7 +223,7 @@ module _ (m : Inside) (sound : IsSound m) (now : Running) (shows : view_of m ≡
       keys = sound.keys;
     }
       where
-        held_after : (a : ℕ) (k : Kept Kind) → object_at objects a ≡ Some k
+        held_after : (a : ℕ) (k : HeldObject Kind) → object_at objects a ≡ Some k
             → IsHeld handed.processes.slots (view_of handed).win32.processes m.section (object_number a) k
         held_after a k e =
             elim (cases_eq (a / 2) (names / 2)) [
@@ -253,7 +253,7 @@ module _ (m : Inside) (sound : IsSound m) (now : Running) (shows : view_of m ≡
             ]
 
     -- The object is held once more.
-    module _ (kept : Kept Kind) (was : object_at m.objects names ≡ Some kept)
+    module _ (kept : HeldObject Kind) (was : object_at m.objects names ≡ Some kept)
         (change : Changes m.objects objects names (held_by names (object_at m.objects names)))
         (spare : objects.spare ≡ m.objects.spare) where
       more : Changes m.objects objects names (Some (held_more names kept))

@@ -10,7 +10,7 @@ use Rattle.win32_spec.specs.WellFormed.{IsWellFormed}
 use Rattle.win32_spec.specs.LookupLaws.{before, not_before}
 use Rattle.win32_spec.specs.HolderLaws.{length-rising}
 use Rattle.win32_spec.specs.FormedLaws.{have_rising}
-use Rattle.w32_handles.specs.Table.{Kept}
+use Rattle.w32_handles.specs.Table.{HeldObject}
 use Rattle.w32_handles.specs.Counted.{all_handles, all_holders_on}
 use Rattle.w32_handles.specs.BoundLaws.{all_holders_on-le}
 use Rattle.w32_process.specs.declared.kept.Kept.{Kept as KeptProcess}
@@ -94,7 +94,7 @@ handles_in-empty (place ∷ places) (suc slot) few l at =
     by_number (Some v) e rest = omega (arith, rest, few 0 v e)
 
 module _ {K : Type 0} (script : Script) (posted : ℕ → ℕ → Call) (placed : ℕ → List PlacedModule) (f : K → Object)
-    (t : Table) (sound : IsSound t) (places : List (Option (Kept K))) (keys : List ℕ)
+    (t : Table) (sound : IsSound t) (places : List (Option (HeldObject K))) (keys : List ℕ)
     (h : IsWellFormed script (state_of posted placed f t places keys)) where
   few : HaveFew t.slots
   few k w e =

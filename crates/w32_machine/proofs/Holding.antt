@@ -6,7 +6,7 @@ use Rattle.std.proofs.lemmas.Bool.{cases_eq}
 use Rattle.win32_spec.specs.Handles.{Handle, handle_of, holders_of, AreRisingFrom}
 use Rattle.win32_spec.specs.Lookup.{object_number}
 use Rattle.win32_spec.specs.LookupLaws.{same, differs}
-use Rattle.w32_handles.specs.Table.{Kept, Table, object_at, Changes}
+use Rattle.w32_handles.specs.Table.{HeldObject, Table, object_at, Changes}
 use Rattle.w32_sync.specs.declared.PipeEnd.TheVariants.{Read, Write}
 use Rattle.w32_machine.specs.declared.kind.Kind.{Kind}
 use Rattle.w32_machine.specs.declared.kind.Kind.TheVariants as kind
@@ -61,7 +61,7 @@ one_named names =
           rw (t, d) refl
     ]
 
-kept-more-is : (names a b : ℕ) (x : Kept Kind)
+kept-more-is : (names a b : ℕ) (x : HeldObject Kind)
     → Some (held_more names (record { object = kind_with a b x.object; holders = x.holders + (a + b) })) ≡
     kept_with (a + (if nat_eq names (object_number names) then 1 else 0))
     (b + (if nat_eq names (object_number names + 1) then 1 else 0)) (Some x)
@@ -76,7 +76,7 @@ kept-more-is names a b x =
 abbrev pub HoldsBelow : List Handle → ℕ → Table Kind → Table Kind → Type 0
 HoldsBelow hs k old new = HoldsEach (handles_below k hs) old new
 
-kept-none : (x : Option (Kept Kind)) → x ≡ kept_with 0 0 x
+kept-none : (x : Option (HeldObject Kind)) → x ≡ kept_with 0 0 x
 kept-none None = refl
 kept-none (Some kept) =
     let n : kept.holders ≡ kept.holders + 0 = omega arith in
@@ -129,7 +129,7 @@ module _ (hs : List Handle) (rising : AreRisingFrom 1 hs) (old : Table Kind) whe
       m = object_number names
 
       -- it was there from the start, and is
-      stands : (was : Kept Kind) → object_at old names ≡ Some was
+      stands : (was : HeldObject Kind) → object_at old names ≡ Some was
           → object_at mid names ≡
           kept_with (holders_of (handles_below k hs) m) (holders_of (handles_below k hs) (m + 1)) (Some was)
       stands was e =
@@ -139,10 +139,11 @@ module _ (hs : List Handle) (rising : AreRisingFrom 1 hs) (old : Table Kind) whe
       pub may-hold : HaveRoom hs old → MayBeHeld names (object_at mid names)
       may-hold room = by_old (object_at old names) refl (room.there k names named)
         where
-          by_old : (x : Option (Kept Kind)) → object_at old names ≡ x → IsSome x → MayBeHeld names (object_at mid names)
+          by_old : (x : Option (HeldObject Kind)) → object_at old names ≡ x → IsSome x
+              → MayBeHeld names (object_at mid names)
           by_old None e some = absurd (cc)
           by_old (Some was) e some =
-              subst (λ (x : Option (Kept Kind)). IsSomeAnd x (λ kept. (kept.holders < 4160)
+              subst (λ (x : Option (HeldObject Kind)). IsSomeAnd x (λ kept. (kept.holders < 4160)
               × (ends_on kept.object (end_by names) < 4160))) (sym (stands was e)) (
                 omega (
                   arith,
@@ -181,11 +182,12 @@ module _ (hs : List Handle) (rising : AreRisingFrom 1 hs) (old : Table Kind) whe
               ends_fit (kind.Process w slot) a b = omega arith
               ends_fit (kind.Terminal terminal) a b = omega arith
 
-      pub holds-next : (new : Table Kind) → IsSome (object_at old names) → Changes mid new names (held_by names (object_at mid names))
+      pub holds-next : (new : Table Kind) → IsSome (object_at old names)
+          → Changes mid new names (held_by names (object_at mid names))
           → HoldsBelow hs (k + 1) old new
       holds-next new some one o = by_old (object_at old names) refl some
         where
-          by_old : (x : Option (Kept Kind)) → object_at old names ≡ x → IsSome x
+          by_old : (x : Option (HeldObject Kind)) → object_at old names ≡ x → IsSome x
               → object_at new o ≡
               kept_with (holders_of (handles_below (k + 1) hs) (object_number o))
               (holders_of (handles_below (k + 1) hs) (object_number o + 1)) (object_at old o)

@@ -14,7 +14,7 @@ use Rattle.win32_spec.specs.WellFormed.{IsWellFormed}
 use Rattle.win32_spec.specs.LookupLaws.{same, differs}
 use Rattle.win32_spec.specs.HolderLaws.{all_holders-change}
 use Rattle.win32_spec.specs.KeepLaws.{wellformed-ended}
-use Rattle.w32_handles.specs.Table.{Kept, Table, object_at}
+use Rattle.w32_handles.specs.Table.{HeldObject, Table, object_at}
 use Rattle.w32_handles.specs.Shown.{object_shown, objects_of}
 use Rattle.w32_handles.specs.PlaceLaws.{half, left_shown, objects-left}
 use Rattle.w32_handles.specs.CountLaws.{all_holders-kept}
@@ -101,7 +101,8 @@ module _ (m : Inside) (sound : IsSound m) (slot w code : ℕ) (stands : number_a
     shows = objects-left shown w m.objects left (λ k. ap (object_shown shown) (leaves k)
         ∙ by_kept (object_at m.objects (2 * k)))
       where
-        by_kept : (o : Option (Kept Kind)) → object_shown shown (left_kept w o) ≡ left_shown w (object_shown shown o)
+        by_kept : (o : Option (HeldObject Kind))
+            → object_shown shown (left_kept w o) ≡ left_shown w (object_shown shown o)
         by_kept None = refl
         by_kept (Some kept) = ap Some (shown-left w kept.object)
 
@@ -167,11 +168,11 @@ module _ (m : Inside) (sound : IsSound m) (slot w code : ℕ) (stands : number_a
           subst (λ i. slice_index_or left.places i None ≡ left_kept w (slice_index_or m.objects.places i None))
           (half (a / 2)) (leaves (a / 2))
 
-      held_after : (a : ℕ) (kept : Kept Kind) → object_at left a ≡ Some kept
+      held_after : (a : ℕ) (kept : HeldObject Kind) → object_at left a ≡ Some kept
           → IsHeld t.slots (view_of (leaving t)).win32.processes m.section (object_number a) kept
       held_after a kept e = by_old (object_at m.objects a) refl (sym (leaves_at a) ∙ e)
         where
-          by_old : (o : Option (Kept Kind)) → object_at m.objects a ≡ o → left_kept w o ≡ Some kept
+          by_old : (o : Option (HeldObject Kind)) → object_at m.objects a ≡ o → left_kept w o ≡ Some kept
               → IsHeld t.slots (view_of (leaving t)).win32.processes m.section (object_number a) kept
           by_old None f g = absurd (cc)
           by_old (Some old) f g =

@@ -10,7 +10,7 @@ use Rattle.win32_spec.specs.LookupLaws.{same}
 use Rattle.win32_spec.specs.HeldLaws.{process_held-by, is-process_held}
 use Rattle.win32_spec.specs.ObjectLaws.{rising_objects-bound}
 use Rattle.win32_spec.specs.HandleEffects.{is_its_object}
-use Rattle.w32_handles.specs.Table.{Kept, Table, object_at, Changes, with_object, instead}
+use Rattle.w32_handles.specs.Table.{HeldObject, Table, object_at, Changes, with_object, instead}
 use Rattle.w32_handles.specs.Shown.{object_shown, objects_of}
 use Rattle.w32_handles.specs.ShownLaws.{rising-objects, object_of-named}
 use Rattle.w32_handles.specs.PlaceLaws.{half, Changes-with_object}
@@ -20,7 +20,7 @@ use Rattle.w32_machine.specs.View.{shown}
 use Rattle.w32_machine.specs.Ending.{left_kept}
 use Rattle.w32_machine.proofs.Changing.{lent}
 
-pub is_some : (x : Option (Kept Kind)) (P : Kept Kind → Type 0) → IsSomeAnd x P → IsSome x
+pub is_some : (x : Option (HeldObject Kind)) (P : HeldObject Kind → Type 0) → IsSomeAnd x P → IsSome x
 is_some (Some kept) P h = refl
 is_some None P h = absurd h
 
@@ -45,7 +45,7 @@ module _ (old : Table Kind) (w : ℕ) where
       spare = h.spare;
     }
       where
-        nothing : (x : Option (Kept Kind)) → object_at now (2 * place) ≡ x
+        nothing : (x : Option (HeldObject Kind)) → object_at now (2 * place) ≡ x
             → object_at now (2 * place) ≡ left_kept w (object_at old (2 * place))
         nothing None e = e ∙ ap (left_kept w) (sym (sym (h.above place (omega arith)) ∙ e))
         nothing (Some kept) e = absurd (none (rw e refl))
@@ -136,7 +136,7 @@ module _ (t : Table Kind) (w : ℕ) where
   pub not-absent : (k : ℕ) → (IsSome (object_at t (2 * k)) → ⊥) → IsNotOf t w k
   not-absent k none e = by_answer (object_at t (2 * k)) refl
     where
-      by_answer : (x : Option (Kept Kind)) → object_at t (2 * k) ≡ x → ⊥
+      by_answer : (x : Option (HeldObject Kind)) → object_at t (2 * k) ≡ x → ⊥
       by_answer None f =
           let g : None ≡ Some (ProcessObject w) = ap (object_shown shown) (sym f) ∙ e in cc
       by_answer (Some kept) f = none (rw f refl)

@@ -8,6 +8,7 @@ mod Words
 mod Processes
 mod Signalled
 mod Readiness
+mod Round
 mod Closing
 mod ClosedSound
 mod Leaving

@@ -16,7 +16,8 @@ use Rattle.w32_base.specs.declared.call.Call.{Call}
 use Rattle.w32_base.specs.declared.call.Call.TheVariants as call
 use Rattle.win32_spec.specs.Call.{CallStep}
 use Rattle.w32_machine.specs.Driving.{IsCreate}
-use Rattle.w32_machine.proofs.Numbers.{SameNumbers, change-numbers, kept-numbers, ended-numbers, add-numbers, add-number}
+use Rattle.w32_machine.proofs.Numbers.{SameNumbers, change-numbers, kept-numbers, ended-numbers, add-numbers}
+use Rattle.w32_machine.proofs.Numbers.{add-number}
 use Rattle.w32_machine.proofs.CallNumbers.{KeepsProcesses, still}
 
 -- the end of process v leaves each slot where it doesn't stand
@@ -72,7 +73,8 @@ module _ (s new : Win32State) (r : Reply) where
         others = λ k d. handed k ∙ add-numbers its s.processes k d;
       }
 
-  pub create-numbers : (script : Script) (w program_no : ℕ) (list : List ℕ) → CreateStep script s w program_no list r new
+  pub create-numbers : (script : Script) (w program_no : ℕ) (list : List ℕ)
+      → CreateStep script s w program_no list r new
       → Makes s r new ⊎ MakesNone s r new
   create-numbers script w program_no list m =
       by_bool (has_absent (handles_by s w) list)

@@ -9,7 +9,8 @@ use Rattle.w32_base.specs.declared.setup.Setup.{Setup}
 use Rattle.win32_spec.specs.Driven.{PartGoes}
 use Rattle.win32_spec.specs.Run.{Posts}
 use Rattle.win32_spec.specs.State.{Process, Win32State}
-use Rattle.win32_spec.specs.Lookup.{change_process, memory_by, number_in, with_own, process_in, thread_of, thread_at, with_posted}
+use Rattle.win32_spec.specs.Lookup.{change_process, memory_by, number_in, with_own, process_in, thread_of, thread_at}
+use Rattle.win32_spec.specs.Lookup.{with_posted}
 use Rattle.win32_spec.specs.StepLaws.{own_tame}
 use Rattle.win32_spec.specs.TameLaws.{wellformed-tame}
 use Rattle.win32_spec.specs.WellFormed.{IsWellFormed}
@@ -55,7 +56,8 @@ module _ (m : Inside) (sound : IsSound m) (slot w : ℕ) (at : number_at m.proce
         sound-over m owning sound
         (record {
           script = refl;
-          table = IsSound-same m.processes.next m.processes.slots m.processes.kept slot its_place within refl sound.table;
+          table = IsSound-same m.processes.next m.processes.slots m.processes.kept slot its_place within refl
+              sound.table;
           slots = length-set {A = Place} m.processes.slots slot its_place;
           objects = refl;
           section = refl;

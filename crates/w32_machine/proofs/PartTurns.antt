@@ -11,7 +11,8 @@ use Rattle.w32_base.specs.declared.part.After.{After}
 use Rattle.w32_base.specs.declared.setup.Setup.{Setup}
 use Rattle.script_spec.specs.declared.script.Script.{Script}
 use Rattle.win32_spec.specs.State.{Thread, Process, Win32State}
-use Rattle.win32_spec.specs.Lookup.{process_of, is_live, process_in, thread_in, thread_of, thread_at, number_of, number_in}
+use Rattle.win32_spec.specs.Lookup.{process_of, is_live, process_in, thread_in, thread_of, thread_at, number_of}
+use Rattle.win32_spec.specs.Lookup.{number_in}
 use Rattle.win32_spec.specs.Lookup.{change_process, change_thread}
 use Rattle.win32_spec.specs.Call.{CallStep}
 use Rattle.win32_spec.specs.Run.{IsThread, PostedStep, EndStep, ended_from_outside}

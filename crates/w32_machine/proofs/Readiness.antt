@@ -12,7 +12,7 @@ use Rattle.win32_spec.specs.Lookup.{process_in, thread_in, thread_of, thread_at,
 use Rattle.win32_spec.specs.LookupLaws.{differs}
 use Rattle.win32_spec.specs.Named.{handles_by}
 use Rattle.win32_spec.specs.Ready.{is_handle_signalled, is_some_signalled, may_go, is_thread_ready, is_process_ready}
-use Rattle.win32_spec.specs.Ready.{is_ready, distance, IsQuiet, IsNextReady}
+use Rattle.win32_spec.specs.Ready.{is_ready}
 use Rattle.w32_process.specs.Table.{place_at, number_at, count_at}
 use Rattle.w32_process.specs.SoundLaws.{within_slots}
 use Rattle.w32_process.specs.ThreadLaws.{thread_shown, thread_in-threads}
@@ -136,75 +136,46 @@ pub nowhere : (m : Inside) → IsSound m → (now : Running) → view_of m ≡ n
     → o ≡ number_at m.processes.slots slot → o ≡ None → number_in now.win32 slot ≡ None
 nowhere m sound now shows slot o e f = sym (numbers m sound now shows slot) ∙ sym e ∙ f
 
--- no thread of another place is ready
-pub only-few : (m : Inside) → IsSound m → (now : Running) → view_of m ≡ now → (slot t : ℕ)
-    → is_ready now.win32 slot t ≡ true → (slot ≤ 64) × (t ≤ 2)
-only-few m sound now shows slot t e = by_process (process_in now.win32.processes slot) refl e
+-- a thread that is ready stands in a slot that has modules
+pub ready-within : (m : Inside) → IsSound m → (now : Running) → view_of m ≡ now → (slot t : ℕ)
+    → is_ready now.win32 slot t ≡ true → (slot < length m.placed.items) × (t ≤ 2)
+ready-within m sound now shows slot t e = by_process (process_in now.win32.processes slot) refl e
   where
     by_process : (o : Option Process) → process_in now.win32.processes slot ≡ o
-        → is_process_ready now.win32 t o ≡ true → (slot ≤ 64) × (t ≤ 2)
+        → is_process_ready now.win32 t o ≡ true → (slot < length m.placed.items) × (t ≤ 2)
     by_process None f g = absurd (cc)
     by_process (Some p) f g =
         by_thread (thread_in p.threads t) refl g
       where
         by_thread : (x : Option Thread) → thread_in p.threads t ≡ x → is_thread_ready now.win32 p x ≡ true
-            → (slot ≤ 64) × (t ≤ 2)
+            → (slot < length m.placed.items) × (t ≤ 2)
         by_thread None h i = absurd (cc)
         by_thread (Some x) h i =
             let some_now : IsSome (thread_at now.win32 slot t) = rw (ap (λ o. thread_of o t) f ∙ h) refl in
             let some : IsSome (thread_at (view_of m).win32 slot t) =
             subst (λ (r : Running). IsSome (thread_at r.win32 slot t)) (sym shows) some_now in
             let within = within_slots m.processes.slots slot _ (stands_at m sound slot t some) in
-            (omega (arith, within, sound.table.few), few m sound slot t some)
+            (omega (arith, within, sound.placed), few m sound slot t some)
 
--- a fact of a slot and a thread that are told in another way
-pub at-place : (P : ℕ → ℕ → Type 0) (a b a' b' : ℕ) → a ≡ a' → b ≡ b' → P a b → P a' b'
-at-place P a b a' b' e f h = subst (λ i. P i b') e (subst (P a) f h)
+pub only-few : (m : Inside) → IsSound m → (now : Running) → view_of m ≡ now → OnlyFew now.win32
+only-few m sound now shows slot t e =
+    let within = ready-within m sound now shows slot t e in
+    (omega (arith, within.0, sound.placed, sound.table.few), within.1)
 
--- Threads by their places in the round: three a slot.
-module _ (s : Win32State) (last_slot last_thread from : ℕ) (l : last_slot ≤ 64) (k : last_thread ≤ 2)
-    (is : from ≡ 3 * last_slot + last_thread + 1) (only : OnlyFew s) where
-  abbrev pub NoneBefore : ℕ → Type 0
-  NoneBefore n = (i : ℕ) → i < n → is_ready s ((from + i) % 195 / 3) ((from + i) % 195 % 3) ≡ false
+-- no thread of another place is ready
+pub not-ready : (s : Win32State) (slot t : ℕ) → is_ready s slot t ≢ true → is_ready s slot t ≡ false
+not-ready s slot t d = by_answer (is_ready s slot t) refl
+  where
+    by_answer : (b : Bool) → is_ready s slot t ≡ b → b ≡ false
+    by_answer false e = refl
+    by_answer true e = absurd (d e)
 
-  place-of : (slot t : ℕ) → slot ≤ 64 → t ≤ 2 → (from + distance last_slot last_thread slot t) % 195 ≡ 3 * slot + t
-  place-of slot t a b = omega (arith, is, l, k)
+pub past-slots : (m : Inside) → IsSound m → (now : Running) → view_of m ≡ now → (slot t : ℕ)
+    → length m.placed.items ≤ slot → is_ready now.win32 slot t ≡ false
+past-slots m sound now shows slot t l =
+    not-ready now.win32 slot t (λ e. absurd (omega (arith, l, (ready-within m sound now shows slot t e).0)))
 
-  pub next-found : (n : ℕ) → n < 195 → NoneBefore n
-      → is_ready s ((from + n) % 195 / 3) ((from + n) % 195 % 3) ≡ true
-      → IsNextReady s last_slot last_thread ((from + n) % 195 / 3) ((from + n) % 195 % 3)
-  next-found n few none ready = record {
-    ready = ready;
-    first = λ slot t e.
-        let range = only slot t e in
-        elim (cases_lt (distance last_slot last_thread slot t) n) [
-          | inl below ↦
-              let p = place-of slot t range.0 range.1 in
-              let a : (from + distance last_slot last_thread slot t) % 195 / 3 ≡ slot = omega (arith, p, range.1) in
-              let b : (from + distance last_slot last_thread slot t) % 195 % 3 ≡ t = omega (arith, p, range.1) in
-              let f : is_ready s slot t ≡ false = subst (λ i. is_ready s i t ≡ false) a
-              (subst (λ i. is_ready s ((from + distance last_slot last_thread slot t) % 195 / 3) i ≡ false) b
-              (none (distance last_slot last_thread slot t) below)) in
-              absurd (cc)
-          | inr above ↦
-              let own : distance last_slot last_thread ((from + n) % 195 / 3) ((from + n) % 195 % 3) ≡ n =
-              omega (arith, is, l, k, few) in
-              omega (arith, own, above)
-        ];
-  }
-
-  pub none-found : (n : ℕ) → 195 ≤ n → NoneBefore n → IsQuiet s
-  none-found n all none slot t = by_answer (is_ready s slot t) refl
-    where
-      by_answer : (b : Bool) → is_ready s slot t ≡ b → b ≡ false
-      by_answer false e = refl
-      by_answer true e =
-          let range = only slot t e in
-          let p = place-of slot t range.0 range.1 in
-          let a : (from + distance last_slot last_thread slot t) % 195 / 3 ≡ slot = omega (arith, p, range.1) in
-          let b : (from + distance last_slot last_thread slot t) % 195 % 3 ≡ t = omega (arith, p, range.1) in
-          let below : distance last_slot last_thread slot t < n = omega (arith, all) in
-          let f : is_ready s slot t ≡ false = subst (λ i. is_ready s i t ≡ false) a
-          (subst (λ i. is_ready s ((from + distance last_slot last_thread slot t) % 195 / 3) i ≡ false) b
-          (none (distance last_slot last_thread slot t) below)) in
-          absurd (cc)
+pub past-threads : (m : Inside) → IsSound m → (now : Running) → view_of m ≡ now → (slot t : ℕ) → 3 ≤ t
+    → is_ready now.win32 slot t ≡ false
+past-threads m sound now shows slot t l =
+    not-ready now.win32 slot t (λ e. absurd (omega (arith, l, (ready-within m sound now shows slot t e).1)))

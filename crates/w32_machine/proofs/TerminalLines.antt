@@ -16,7 +16,7 @@ use Rattle.win32_spec.specs.Named.{named_by, object_by, terminal_named, Gives}
 use Rattle.win32_spec.specs.Regions.{is_inside}
 use Rattle.win32_spec.specs.TerminalCalls.{with_terminal, signal_number, is_buffer, is_background, KeyStep, TtyStep}
 use Rattle.win32_spec.specs.WellFormed.{IsWellFormed}
-use Rattle.w32_handles.specs.Table.{Kept, object_at}
+use Rattle.w32_handles.specs.Table.{HeldObject, object_at}
 use Rattle.w32_machine.specs.Contract.{IsCaller, key_lines}
 use Rattle.w32_machine.specs.declared.caller.Caller.{Caller}
 use Rattle.w32_machine.specs.declared.kind.Kind.{Kind}
@@ -182,7 +182,7 @@ on-terminal s new w h x r Q t is there q =
     (subst (λ o. MatchOption o (Gives reply.BadHandle s r new) Q) (sym (named-terminal x ∙ there)) q)
 
 -- what is lent twice is the same
-pub same-lent : (o : Option (Kept Kind)) (x y : Kind) → IsSomeAnd o (λ kept. kept.object ≡ x)
+pub same-lent : (o : Option (HeldObject Kind)) (x y : Kind) → IsSomeAnd o (λ kept. kept.object ≡ x)
     → IsSomeAnd o (λ kept. kept.object ≡ y) → x ≡ y
 same-lent (Some kept) x y e f = sym e ∙ f
 same-lent None x y e f = absurd e

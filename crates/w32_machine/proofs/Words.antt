@@ -10,7 +10,7 @@ use Rattle.win32_spec.specs.Lookup.{object_number, object_of, words_or, section_
 use Rattle.win32_spec.specs.LookupLaws.{same, differs, same_some}
 use Rattle.win32_spec.specs.ObjectLaws.{rising_objects-bound}
 use Rattle.win32_spec.specs.WellFormed.{AreRisingObjects}
-use Rattle.w32_handles.specs.Table.{Kept, object_at}
+use Rattle.w32_handles.specs.Table.{HeldObject, object_at}
 use Rattle.w32_handles.specs.Shown.{object_shown}
 use Rattle.w32_handles.specs.ShownLaws.{object_of-named, rising-objects}
 use Rattle.w32_section.specs.declared.BadIndex.{BadIndex}
@@ -60,7 +60,7 @@ shows-section (kind.Terminal terminal) words e = absurd (cc)
 
 module _ (m : Inside) (sound : IsSound m) (now : Running) (shows : view_of m ≡ now) where
   its_place : (words : List ℕ) → section_words now.win32.objects ≡ Some words
-      → (kept : Kept Kind) × (object_at m.objects m.section ≡ Some kept) × (kept.object ≡ kind.Section words)
+      → (kept : HeldObject Kind) × (object_at m.objects m.section ≡ Some kept) × (kept.object ≡ kind.Section words)
   its_place words e =
       let at = section-listed 0 (view_of m).win32.objects words (rising-objects shown m.objects.places)
       (ap (λ (r : Running). section_words r.win32.objects) shows ∙ e) in
@@ -71,9 +71,9 @@ module _ (m : Inside) (sound : IsSound m) (now : Running) (shows : view_of m ≡
       sym (object_of-named shown m.objects at.0) ∙ ap (object_of (view_of m).win32.objects) even ∙ at.1 in
       by_answer at.0 even (object_at m.objects at.0) refl found
     where
-      by_answer : (o : ℕ) → object_number o ≡ o → (k : Option (Kept Kind)) → object_at m.objects o ≡ k
+      by_answer : (o : ℕ) → object_number o ≡ o → (k : Option (HeldObject Kind)) → object_at m.objects o ≡ k
           → object_shown shown k ≡ Some (Section words)
-          → (kept : Kept Kind) × (object_at m.objects m.section ≡ Some kept) × (kept.object ≡ kind.Section words)
+          → (kept : HeldObject Kind) × (object_at m.objects m.section ≡ Some kept) × (kept.object ≡ kind.Section words)
       by_answer o even None f g = absurd (cc)
       by_answer o even (Some kept) f g =
           let h : shown kept.object ≡ Section words = cc in
@@ -105,5 +105,5 @@ module _ (m : Inside) (sound : IsSound m) (now : Running) (shows : view_of m ≡
           let at = its_place words e in
           let it = lent (object_at m.objects m.section) x was in
           let same : at.0 ≡ it.0 = same_some (object_at m.objects m.section) at.0 it.0 at.1 it.1 in
-          let is : x ≡ kind.Section words = sym it.2 ∙ ap (λ (k : Kept Kind). k.object) (sym same) ∙ at.2 in
+          let is : x ≡ kind.Section words = sym it.2 ∙ ap (λ (k : HeldObject Kind). k.object) (sym same) ∙ at.2 in
           subst (λ k. IsWord i k found) is did

@@ -4,7 +4,7 @@ use Rattle.w32_base.specs.declared.call.Call.{Call}
 use Rattle.win32_spec.specs.Handles.{Handle, handle_of, holders_of, AreRisingFrom}
 use Rattle.win32_spec.specs.Lookup.{object_number}
 use Rattle.win32_spec.specs.Making.{opening_call}
-use Rattle.w32_handles.specs.Table.{Kept, Table, object_at}
+use Rattle.w32_handles.specs.Table.{HeldObject, Table, object_at}
 use Rattle.w32_sync.specs.declared.PipeEnd.TheVariants.{Read, Write}
 use Rattle.w32_machine.specs.declared.kind.Kind.{Kind}
 use Rattle.w32_machine.specs.declared.kind.Kind.TheVariants as kind
@@ -20,7 +20,7 @@ kind_with first second (kind.Mutex owner) = kind.Mutex owner
 kind_with first second (kind.Process w slot) = kind.Process w slot
 kind_with first second (kind.Terminal terminal) = kind.Terminal terminal
 
-abbrev pub kept_with : ℕ → ℕ → Option (Kept Kind) → Option (Kept Kind)
+abbrev pub kept_with : ℕ → ℕ → Option (HeldObject Kind) → Option (HeldObject Kind)
 kept_with first second None = None
 kept_with first second (Some kept) =
     Some (record { object = kind_with first second kept.object; holders = kept.holders + (first + second) })
@@ -34,11 +34,11 @@ HoldsEach hs old new = (o : ℕ) → object_at new o ≡
 pub record HaveRoom (hs : List Handle) (t : Table Kind) : Type 0 where
   pub rising : AreRisingFrom 1 hs
   pub there : (h names : ℕ) → handle_of hs h ≡ Some names → IsSome (object_at t names)
-  pub holders : (o : ℕ) (kept : Kept Kind) → object_at t o ≡ Some kept
+  pub holders : (o : ℕ) (kept : HeldObject Kind) → object_at t o ≡ Some kept
       → kept.holders + (holders_of hs (object_number o) + holders_of hs (object_number o + 1)) ≤ 4160
-  pub first : (o : ℕ) (kept : Kept Kind) → object_at t o ≡ Some kept
+  pub first : (o : ℕ) (kept : HeldObject Kind) → object_at t o ≡ Some kept
       → ends_on kept.object Read + holders_of hs (object_number o) ≤ 4160
-  pub second : (o : ℕ) (kept : Kept Kind) → object_at t o ≡ Some kept
+  pub second : (o : ℕ) (kept : HeldObject Kind) → object_at t o ≡ Some kept
       → ends_on kept.object Write + holders_of hs (object_number o + 1) ≤ 4160
 
 -- the threads of a slot have posted their first call

@@ -5,7 +5,7 @@ use Rattle.std.specs.Option.{IsSomeAnd}
 use Rattle.w32_base.specs.declared.entry.Outcome.{Outcome}
 use Rattle.w32_base.specs.declared.entry.Outcome.TheVariants as outcome
 use Rattle.win32_spec.specs.Ready.{is_first_end}
-use Rattle.w32_handles.specs.Table.{Kept, Table, object_at, Changes}
+use Rattle.w32_handles.specs.Table.{HeldObject, Table, object_at, Changes}
 use Rattle.w32_process.specs.Table as processes
 use Rattle.w32_process.specs.Table.{number_at, code_of, without_kept}
 use Rattle.w32_sync.specs.declared.PipeEnd.{PipeEnd}
@@ -22,7 +22,7 @@ abbrev pub kind_without : PipeEnd → Kind → Kind
 kind_without end x = with_ends x end (ends_on x end - 1)
 
 -- the object, which a handle less names by the end of its number, or nothing where that was the last one
-abbrev pub kept_without : ℕ → Kept Kind → Option (Kept Kind)
+abbrev pub kept_without : ℕ → HeldObject Kind → Option (HeldObject Kind)
 kept_without o kept =
     if nat_lt 1 kept.holders then Some (record {
       object = kind_without (end_by o) kept.object;
@@ -38,7 +38,7 @@ abbrev pub LeavesOne : Table Kind → Table Kind → ℕ → Type 0
 LeavesOne old new o = IfSome (object_at old o) (λ kept. Changes old new o (kept_without o kept))
 
 -- the process that an object was of which goes with a handle on it
-abbrev pub WentWith : Option (Kept Kind) → Option (ℕ × ℕ) → Type 0
+abbrev pub WentWith : Option (HeldObject Kind) → Option (ℕ × ℕ) → Type 0
 WentWith None went = Unit {0}
 WentWith (Some kept) went = MatchBool (nat_lt 1 kept.holders) (went ≡ None) (IsProcess kept.object went)
 
@@ -54,7 +54,7 @@ Forgets old went new =
     ⊎ ((number_at old.slots p.1 ≢ Some p.0) × (new ≡ (record old { kept = without_kept old.kept p.0 }))))
 
 -- what the end of a process leaves of an object
-abbrev pub left_kept : ℕ → Option (Kept Kind) → Option (Kept Kind)
+abbrev pub left_kept : ℕ → Option (HeldObject Kind) → Option (HeldObject Kind)
 left_kept w None = None
 left_kept w (Some kept) = Some (record kept { object = kind_left_by w kept.object })
 

@@ -6,7 +6,7 @@ use Rattle.win32_spec.specs.State.{Object, Win32State}
 use Rattle.win32_spec.specs.Lookup.{number_in}
 use Rattle.win32_spec.specs.Ends.{is_object_of}
 use Rattle.win32_spec.specs.ProcessCalls.{process_object}
-use Rattle.w32_handles.specs.Table.{Kept}
+use Rattle.w32_handles.specs.Table.{HeldObject}
 use Rattle.w32_machine.specs.declared.caller.Caller.{Caller}
 use Rattle.w32_machine.specs.declared.kind.Kind.{Kind}
 use Rattle.w32_machine.specs.declared.kind.Kind.TheVariants as kind
@@ -14,18 +14,18 @@ use Rattle.w32_machine.specs.Ending.{end_by}
 use Rattle.w32_machine.specs.Kinds.{ends_on, with_ends}
 
 -- an object with a holder more, by the end that the number names
-abbrev pub held_more : ℕ → Kept Kind → Kept Kind
+abbrev pub held_more : ℕ → HeldObject Kind → HeldObject Kind
 held_more o kept = record {
   object = with_ends kept.object (end_by o) (ends_on kept.object (end_by o) + 1);
   holders = kept.holders + 1;
 }
 
-abbrev pub held_by : ℕ → Option (Kept Kind) → Option (Kept Kind)
+abbrev pub held_by : ℕ → Option (HeldObject Kind) → Option (HeldObject Kind)
 held_by o None = None
 held_by o (Some kept) = Some (held_more o kept)
 
 -- there is room for a holder more of an object
-abbrev pub MayBeHeld : ℕ → Option (Kept Kind) → Type 0
+abbrev pub MayBeHeld : ℕ → Option (HeldObject Kind) → Type 0
 MayBeHeld o found = IsSomeAnd found (λ kept. (kept.holders < 4160) × (ends_on kept.object (end_by o) < 4160))
 
 -- A new object of a caller that fits the state: a mutex is the caller's or free, a pipe has one handle on its read end,

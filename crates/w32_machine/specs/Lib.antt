@@ -8,6 +8,7 @@ pub mod Ending
 pub mod Handing
 pub mod Reached
 pub mod Waited
+pub mod Looking
 pub mod Terminals
 pub mod Copies
 pub mod Turning

@@ -7,7 +7,7 @@ use Rattle.script_spec.specs.declared.script.Script.{Script}
 use Rattle.win32_spec.specs.Objects.{Free}
 use Rattle.win32_spec.specs.Opening.{opening_words, opening_memory, OpeningNumbers, opening_host, opening_handles}
 use Rattle.win32_spec.specs.State.{Object, Section, Mutex, ProcessObject, TerminalObject, PlacedModule}
-use Rattle.w32_handles.specs.Table.{Kept}
+use Rattle.w32_handles.specs.Table.{HeldObject}
 use Rattle.w32_process.specs.Places.{Place, empty_place, host_place, made_place}
 use Rattle.w32_process.specs.Table as processes
 use Rattle.w32_machine.specs.declared.kind.Kind.{Kind}
@@ -65,7 +65,7 @@ slot_of (kind.Process w slot) = slot
 slot_of (kind.Terminal terminal) = 0
 
 -- what an object is, with that slot and its holders
-abbrev pub kept_shown : Option (Kept Kind) → Option (Object × ℕ × ℕ)
+abbrev pub kept_shown : Option (HeldObject Kind) → Option (Object × ℕ × ℕ)
 kept_shown None = None
 kept_shown (Some kept) = Some (shown kept.object, slot_of kept.object, kept.holders)
 

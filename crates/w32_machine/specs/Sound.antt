@@ -5,7 +5,7 @@ use Rattle.win32_spec.specs.State.{Process}
 use Rattle.win32_spec.specs.Lookup.{object_number}
 use Rattle.win32_spec.specs.Pipes.{all_holders_of}
 use Rattle.win32_spec.specs.WellFormed.{IsWellFormed}
-use Rattle.w32_handles.specs.Table.{Kept, object_at}
+use Rattle.w32_handles.specs.Table.{HeldObject, object_at}
 use Rattle.w32_process.specs.Places.{Place}
 use Rattle.w32_process.specs.Table.{number_at}
 use Rattle.w32_process.specs.Sound as processes
@@ -27,7 +27,7 @@ IsKind slots ps section o (kind.Process w slot) = (k : ℕ) → number_at slots 
 IsKind slots ps section o (kind.Terminal terminal) = Unit {0}
 
 -- an object has as many holders as there are handles of live processes that name it, by either end or face
-pub record IsHeld (slots : List Place) (ps : List Process) (section o : ℕ) (kept : Kept Kind) : Type 0 where
+pub record IsHeld (slots : List Place) (ps : List Process) (section o : ℕ) (kept : HeldObject Kind) : Type 0 where
   pub holders : kept.holders ≡ all_holders_of ps o + all_holders_of ps (o + 1)
   pub kind : IsKind slots ps section o kept.object
 
@@ -39,7 +39,7 @@ pub record IsSound (m : Inside) : Type 0 where
   pub slots : length m.processes.slots ≡ m.script.setup.limits.slots + 1
   pub posted : length m.posted.items ≡ 3 * length m.processes.slots
   pub placed : length m.placed.items ≡ length m.processes.slots
-  pub held : (o : ℕ) (kept : Kept Kind) → object_at m.objects o ≡ Some kept
+  pub held : (o : ℕ) (kept : HeldObject Kind) → object_at m.objects o ≡ Some kept
       → IsHeld m.processes.slots (view_of m).win32.processes m.section (object_number o) kept
   pub room : 4160 ≤ length (view_of m).win32.objects + m.objects.spare
   pub keys : key_lines m.script.directives ≤ deque_capacity m.keys

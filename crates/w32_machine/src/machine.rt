@@ -46,8 +46,8 @@ mod words;
 
 pub use turn::Turned;
 
-/// How many threads there may be: three in each of 65 slots.
-const THREADS: u16 = 195;
+/// How many slots there are at the most, with the host's.
+const SLOTS: usize = 65;
 
 /// The modelled Win32. A contract sees the script that it runs, and its state.
 #[derive(Drop)]
@@ -76,8 +76,8 @@ impl Model for Machine {
 }
 
 impl Machine {
-    /// The machine in the state in which a run of the script begins. All memory is taken here. It fails only for want of
-    /// it.
+    /// The machine in the state in which a run of the script begins. All memory is taken here. It fails only for want
+    /// of it.
     pub fn open(alloc: Global, script: &Script) -> Result<Machine, Memory>
         requires { IsValid script.now }
         ensures opening { IfOk result (λ machine. IsOpening script.now machine.win32) }
@@ -130,15 +130,15 @@ impl Machine {
         ensures { MatchOption result (IsQuiet self.now.win32)
             (λ next. IsNextReady self.now.win32 last.0 last.1 next.0 next.1) }
     {
-        let from = 3 * u16::from(last.0.get()) + u16::from(last.1.get()) + 1;
-        for step in 0..THREADS {
-            let at = (from + step) % THREADS;
-            let (slot, thread) = (Slot::new((at / 3) as u8), ThreadNo::new((at % 3) as u8));
-            if self.is_ready(slot, thread) {
-                return Some((slot, thread));
-            }
+        let (slot, thread) = last;
+        let after = usize::from(slot.get()) + 1;
+        if let Some(next) = self.first_from(slot, thread.get() + 1) {
+            return Some((slot, next));
         }
-        None
+        if let Some(next) = self.first_among(after, SLOTS) {
+            return Some(next);
+        }
+        self.first_among(0, after)
     }
 
     /// The memory of the process in a slot, or none where the slot is empty.
@@ -169,11 +169,11 @@ impl Machine {
     }
 
     /// The posted call of a thread.
-    pub(crate) fn posted(&self, slot: Slot, thread: ThreadNo) -> Call
+    pub(crate) fn posted(&self, slot: Slot, thread: ThreadNo) -> &Call
         requires { IsSome (thread_at self.now.win32 slot thread) }
-        ensures { IfSome (thread_at self.now.win32 slot thread) (λ x. result ≡ x.posted) }
+        ensures { IfSome (thread_at self.now.win32 slot thread) (λ x. result.now ≡ x.posted) }
     {
-        self.posted[place(slot, thread)]
+        &self.posted[place(slot, thread)]
     }
 }
 

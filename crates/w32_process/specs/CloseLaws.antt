@@ -6,7 +6,8 @@ use Rattle.std.proofs.lemmas.Bool.{cases_eq}
 use Rattle.script_spec.specs.declared.script.Script.{Script}
 use Rattle.win32_spec.specs.Handles.{handle_of, without_handle, AreRisingFrom}
 use Rattle.win32_spec.specs.State.{Object, ProcessObject, NumberedObject, Process, Win32State}
-use Rattle.win32_spec.specs.Lookup.{is_alive, process_of, is_live, object_number, object_of, change_process, with_handles}
+use Rattle.win32_spec.specs.Lookup.{is_alive, process_of, is_live, object_number, object_of, change_process}
+use Rattle.win32_spec.specs.Lookup.{with_handles}
 use Rattle.win32_spec.specs.Ends.{is_object_held, held_objects, is_process_held, kept_processes, swept}
 use Rattle.win32_spec.specs.WellFormed.{AreRisingProcesses, IsWellFormed}
 use Rattle.win32_spec.specs.LookupLaws.{same, differs, before, not_before, same_some, changed_process}
@@ -46,7 +47,8 @@ module _ (script : Script) (s : Win32State) (h : IsWellFormed script s) (w : ℕ
       omega (
         arith,
         all_holders-close 1 s.next s.processes w p h.formed.processes found alive k names 1 rising_handles named o,
-        all_holders-close 1 s.next s.processes w p h.formed.processes found alive k names 1 rising_handles named (o + 1),
+        all_holders-close 1 s.next s.processes w p h.formed.processes found alive k names 1 rising_handles named
+            (o + 1),
         is_on names o even,
       )
 

@@ -8,7 +8,7 @@ use Rattle.win32_spec.specs.Lookup.{process_of, is_live, object_number, object_o
 use Rattle.win32_spec.specs.Ends.{is_process_held, kept_processes, swept}
 use Rattle.win32_spec.specs.WellFormed.{IsWellFormed}
 use Rattle.win32_spec.specs.LookupLaws.{not_none}
-use Rattle.w32_handles.specs.Table.{Kept}
+use Rattle.w32_handles.specs.Table.{HeldObject}
 use Rattle.w32_handles.specs.Shown.{objects_of, without_object}
 use Rattle.w32_handles.specs.Counted.{all_holders_on}
 use Rattle.w32_process.specs.declared.kept.Kept.{Kept as KeptProcess}
@@ -25,7 +25,7 @@ use Rattle.w32_process.specs.CloseLaws.{close-unheld}
 
 -- the state that the tables show
 abbrev pub state_of : {K : Type 0} → (posted : ℕ → ℕ → Call) (placed : ℕ → List PlacedModule) → (K → Object) → Table
-    → List (Option (Kept K)) → List ℕ → Win32State
+    → List (Option (HeldObject K)) → List ℕ → Win32State
 state_of posted placed f t places keys = record {
   processes = processes_of posted placed t;
   objects = objects_of f places;
@@ -34,7 +34,7 @@ state_of posted placed f t places keys = record {
 }
 
 module _ {K : Type 0} (script : Script) (posted : ℕ → ℕ → Call) (placed : ℕ → List PlacedModule) (f : K → Object)
-    (t : Table) (sound : IsSound t) (places : List (Option (Kept K))) (keys : List ℕ)
+    (t : Table) (sound : IsSound t) (places : List (Option (HeldObject K))) (keys : List ℕ)
     (h : IsWellFormed script (state_of posted placed f t places keys)) where
   -- a process of which there is an object, and that doesn't live, is kept
   pub kept-known : (o v : ℕ) → object_of (objects_of f places) o ≡ Some (ProcessObject v) → IsInNone t.slots v
@@ -51,7 +51,7 @@ module _ {K : Type 0} (script : Script) (posted : ℕ → ℕ → Call) (placed 
           (process_of-aside posted placed t sound v none ∙ ap process_kept i))
 
   module _ (slot w : ℕ) (stands : number_at t.slots slot ≡ Some w) (k names : ℕ)
-      (named : handle_of (place_at t.slots slot).handles k ≡ Some names) (left : List (Option (Kept K))) where
+      (named : handle_of (place_at t.slots slot).handles k ≡ Some names) (left : List (Option (HeldObject K))) where
     abbrev s : Win32State
     s = state_of posted placed f t places keys
 

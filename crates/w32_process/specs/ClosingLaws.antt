@@ -151,7 +151,13 @@ module _ (next : ℕ) (ps : List Process) (xs : List NumberedObject) (w : ℕ) (
             × (handle_of x.handles k ≡ Some names)
         forth v q k names e live n =
             elim (cases_eq v w) [
-              | inl m ↦ (q, ap (process_of (with_hs fewer)) m ∙ found-here fewer ∙ sym later_here ∙ (rw m at e), live, n)
+              | inl m ↦ (
+                q,
+                ap (process_of (with_hs fewer)) m ∙ found-here fewer ∙ sym later_here
+                    ∙ (rw m at e),
+                live,
+                n,
+              )
               | inr d ↦ by_old d (process_of ps v) refl (sym (later_aside v d) ∙ e)
             ]
           where
@@ -188,7 +194,8 @@ module _ (next : ℕ) (ps : List Process) (xs : List NumberedObject) (w : ℕ) (
     pub later-objects : held_objects later os ≡ held fewer
     later-objects =
         same_objects 0 0 (held_objects later os) (held fewer)
-        (rising-held later 0 os (rising-held (with_hs hs) 0 xs objects)) (rising-held (with_hs fewer) 0 xs objects) finds
+        (rising-held later 0 os (rising-held (with_hs hs) 0 xs objects)) (rising-held (with_hs fewer) 0 xs objects)
+        finds
       where
         by_test : (o : ℕ) (a b : Bool) → is_object_held (with_hs fewer) o ≡ a → is_object_held (with_hs hs) o ≡ b
             → object_kept a (object_kept b (object_of xs o)) ≡ object_kept a (object_of xs o)
@@ -226,7 +233,8 @@ module _ (next : ℕ) (ps : List Process) (xs : List NumberedObject) (w : ℕ) (
                   (ap (process_of later) n ∙ later_here ∙ sym (found-here fewer)
                   ∙ ap (process_of (with_hs fewer)) (sym n))
               | inr d ↦ ap (process_kept_by (is_process_held (held fewer) v)) (later_aside v d)
-                  ∙ kept-twice (is_process_held (held fewer) v) (is_process_held os v) (still_listed v) (process_of ps v)
+                  ∙ kept-twice (is_process_held (held fewer) v) (is_process_held os v) (still_listed v)
+                  (process_of ps v)
                   ∙ ap (process_kept_by (is_process_held (held fewer) v)) (sym (found-aside fewer v d))
             ]
 

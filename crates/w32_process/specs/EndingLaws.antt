@@ -19,7 +19,8 @@ use Rattle.win32_spec.specs.FormedLaws.{have_rising}
 use Rattle.w32_handles.specs.PlaceLaws.{left_shown, found-left}
 use Rattle.w32_handles.specs.ShownLaws.{FindsObjects, same_objects}
 use Rattle.w32_process.specs.ProcessLaws.{Finds, same_processes}
-use Rattle.w32_process.specs.SweepLaws.{object_kept, process_kept_by, found-held, found-kept, kept-twice, HandsOn, held-over}
+use Rattle.w32_process.specs.SweepLaws.{object_kept, process_kept_by, found-held, found-kept, kept-twice, HandsOn}
+use Rattle.w32_process.specs.SweepLaws.{held-over}
 use Rattle.w32_process.specs.ClosingLaws.{same_bool, with_hs, held, found-with, found-here}
 use Rattle.w32_process.specs.ClosingLaws.{found-aside, rising-with_hs, handles-with}
 
@@ -89,7 +90,8 @@ module _ (next : ℕ) (ps : List Process) (xs : List NumberedObject) (w code : �
   then_aside v d =
       process_of-change_other w (ended_process code) (λ x. refl) closed v d
       ∙ found-kept os 1 next empty rising_empty v
-      ∙ ap (process_kept_by (is_process_held os v)) (found-aside next ps xs w p rising objects handles found alive [] v d)
+      ∙ ap (process_kept_by (is_process_held os v))
+      (found-aside next ps xs w p rising objects handles found alive [] v d)
 
   -- a process that is found alive after the end is another one, and was found before
   pub alive_ended : (v : ℕ) (q : Process) → process_of ended v ≡ Some q → is_alive q.life ≡ true

@@ -12,7 +12,7 @@ use Rattle.win32_spec.specs.WellFormed.{AreRisingObjects, IsWellFormed}
 use Rattle.win32_spec.specs.ObjectLaws.{object_of-left, left_object, rising-left}
 use Rattle.win32_spec.specs.HeldLaws.{process_held-by, is-process_held}
 use Rattle.win32_spec.specs.FormedLaws.{have_rising}
-use Rattle.w32_handles.specs.Table.{Kept}
+use Rattle.w32_handles.specs.Table.{HeldObject}
 use Rattle.w32_handles.specs.Shown.{objects_of}
 use Rattle.w32_process.specs.declared.kept.Kept.{Kept as KeptProcess}
 use Rattle.w32_process.specs.Table.{Table, place_at, number_at, without_kept, with_end as with_end_at}
@@ -104,11 +104,11 @@ module _ (script : Script) (s : Win32State) (h : IsWellFormed script s) (w code 
 
 -- The same in the tables.
 module _ {K : Type 0} (script : Script) (posted posted' : ℕ → ℕ → Call) (placed placed' : ℕ → List PlacedModule)
-    (f : K → Object) (t : Table) (sound : IsSound t) (places : List (Option (Kept K))) (keys : List ℕ)
+    (f : K → Object) (t : Table) (sound : IsSound t) (places : List (Option (HeldObject K))) (keys : List ℕ)
     (h : IsWellFormed script (state_of posted placed f t places keys)) (slot w code : ℕ)
     (stands : number_at t.slots slot ≡ Some w) (none : (place_at t.slots slot).handles ≡ [])
     (posted_aside : (k u : ℕ) → k ≢ slot → posted' k u ≡ posted k u)
-    (placed_aside : (k : ℕ) → k ≢ slot → placed' k ≡ placed k) (left : List (Option (Kept K)))
+    (placed_aside : (k : ℕ) → k ≢ slot → placed' k ≡ placed k) (left : List (Option (HeldObject K)))
     (shows : objects_of f left ≡ objects_left_by w (objects_of f places)) where
   abbrev s : Win32State
   s = state_of posted placed f t places keys

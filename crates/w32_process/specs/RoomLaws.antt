@@ -14,7 +14,7 @@ use Rattle.win32_spec.specs.LookupLaws.{same, differs, before, not_before}
 use Rattle.win32_spec.specs.HolderLaws.{length-rising}
 use Rattle.win32_spec.specs.HeldLaws.{process_held-by}
 use Rattle.win32_spec.specs.FormedLaws.{have_rising}
-use Rattle.w32_handles.specs.Table.{Kept}
+use Rattle.w32_handles.specs.Table.{HeldObject}
 use Rattle.w32_handles.specs.Shown.{object_shown, objects_of, without_object}
 use Rattle.w32_handles.specs.ShownLaws.{object_of-place}
 use Rattle.w32_handles.specs.ShownLaws.{rising-without_object}
@@ -130,7 +130,7 @@ kept-listed (e ∷ es) xs distinct r held =
         (held w (rw s some))
 
 module _ {K : Type 0} (script : Script) (posted : ℕ → ℕ → Call) (placed : ℕ → List PlacedModule) (f : K → Object)
-    (t : Table) (sound : IsSound t) (places : List (Option (Kept K))) (keys : List ℕ)
+    (t : Table) (sound : IsSound t) (places : List (Option (HeldObject K))) (keys : List ℕ)
     (h : IsWellFormed script (state_of posted placed f t places keys)) where
   abbrev ps : List Process
   ps = processes_of posted placed t
@@ -148,7 +148,8 @@ module _ {K : Type 0} (script : Script) (posted : ℕ → ℕ → Call) (placed 
   held : (k : ℕ) → IsSome (slice_index_or places k None) → 0 < all_holders_on ps (2 * k)
   held k some = by_answer (slice_index_or places k None) refl some
     where
-      by_answer : (o : Option (Kept K)) → slice_index_or places k None ≡ o → IsSome o → 0 < all_holders_on ps (2 * k)
+      by_answer : (o : Option (HeldObject K)) → slice_index_or places k None ≡ o → IsSome o
+          → 0 < all_holders_on ps (2 * k)
       by_answer None e some = absurd (true≢false (sym some))
       by_answer (Some kept) e some =
           let found = object_of-place f places k ∙ ap (object_shown f) e in
@@ -175,7 +176,12 @@ module _ {K : Type 0} (script : Script) (posted : ℕ → ℕ → Call) (placed 
 
   pub kept-few : length t.kept ≤ 4160
   kept-few =
-      omega (arith, objects-few, kept-listed t.kept (objects_of f places) sound.numbers.kept_alone h.formed.objects named)
+      omega (
+        arith,
+        objects-few,
+        kept-listed t.kept (objects_of f places) sound.numbers.kept_alone h.formed.objects
+            named,
+      )
     where
       named : (v : ℕ) → IsSome (code_of t.kept v) → is_process_held (objects_of f places) v ≡ true
       named v some = by_code (code_of t.kept v) refl some

@@ -53,7 +53,8 @@ module _ (script : Script) (s : Win32State) (h : IsWellFormed script s) (w : ℕ
   -- the state with the handles that the process has
   pub same_handles : change_process w (λ x. record x { handles = p.handles }) s.processes ≡ s.processes
   same_handles =
-      same_processes 1 s.next 1 s.next (change_process w (λ x. record x { handles = p.handles }) s.processes) s.processes
+      same_processes 1 s.next 1 s.next (change_process w (λ x. record x { handles = p.handles }) s.processes)
+      s.processes
       (rising-change_process w (λ x. record x { handles = p.handles }) (λ x. refl) 1 s.next s.processes
       h.formed.processes) h.formed.processes finds
     where

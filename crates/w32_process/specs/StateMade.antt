@@ -1,6 +1,7 @@
 -- A process that is made in the tables, as their state shows it, and what is found on the way.
 use Rattle.std.proofs.Common.{◌≡◌, ◌≢◌, inl, inr, ℕ, ◌+◌, ◌<◌, Bool, true, false, ◌||◌, List, [], ◌∷◌, length}
-use Rattle.std.proofs.Common.{zero, suc, ◌*◌, slice_index_or, Option, Some, None, IsSome, refl, sym, ap, ◌∙◌, subst, arith}
+use Rattle.std.proofs.Common.{zero, suc, ◌*◌, slice_index_or, Option, Some, None, IsSome, refl, sym, ap, ◌∙◌, subst}
+use Rattle.std.proofs.Common.{arith}
 use Rattle.std.proofs.lemmas.Bool.{cases_eq}
 use Rattle.w32_base.specs.declared.call.Call.{Call}
 use Rattle.w32_base.specs.declared.setup.Program.{Program}
@@ -16,7 +17,7 @@ use Rattle.win32_spec.specs.ProcessCalls.{process_object, with_made}
 use Rattle.win32_spec.specs.WellFormed.{AreRisingObjects}
 use Rattle.win32_spec.specs.LookupLaws.{same, differs}
 use Rattle.win32_spec.specs.ObjectLaws.{rising_objects-bound}
-use Rattle.w32_handles.specs.Table.{Kept}
+use Rattle.w32_handles.specs.Table.{HeldObject}
 use Rattle.w32_handles.specs.Shown.{object_shown, objects_from, objects_of}
 use Rattle.w32_process.specs.Places.{made_place}
 use Rattle.w32_process.specs.Table.{Table, place_at, number_at, IsLowestEmpty}
@@ -98,7 +99,7 @@ process_object-some low (x ∷ xs) v o r e =
 
 -- a process, its object, and other handles of the process that makes it
 pub state-made : {K : Type 0} (posted posted' : ℕ → ℕ → Call) (placed placed' : ℕ → List PlacedModule)
-    (f : K → Object) (t : Table) → IsSound t → (places left : List (Option (Kept K))) (keys : List ℕ) (slot : ℕ)
+    (f : K → Object) (t : Table) → IsSound t → (places left : List (Option (HeldObject K))) (keys : List ℕ) (slot : ℕ)
     → slot < length t.slots → number_at t.slots slot ≡ None → (number : ℕ) (program : Program) (listed : List Handle)
     → KnowsMade posted posted' placed placed' slot → (o : ℕ)
     → objects_of f left ≡ add_object o (ProcessObject t.next) (objects_of f places)
@@ -128,7 +129,7 @@ state-made posted posted' placed placed' f t sound places left keys slot within 
 -- It is the first of the places whose object is that of the process.
 module _ {K : Type 0} (f : K → Object) (v : ℕ) where
   -- none of the first places has the object of the process
-  abbrev pub IsNotBelow : List (Option (Kept K)) → ℕ → Type 0
+  abbrev pub IsNotBelow : List (Option (HeldObject K)) → ℕ → Type 0
   IsNotBelow places n = (k : ℕ) → k < n → object_shown f (slice_index_or places k None) ≢ Some (ProcessObject v)
 
   is_of : (x : Object) → is_object_of x v ≡ true → x ≡ ProcessObject v
@@ -140,7 +141,7 @@ module _ {K : Type 0} (f : K → Object) (v : ℕ) where
   is_of (Pipe bytes) t = absurd (cc)
   is_of (TerminalObject terminal) t = absurd (cc)
 
-  absent-from : (place : ℕ) (places : List (Option (Kept K))) → IsNotBelow places (length places)
+  absent-from : (place : ℕ) (places : List (Option (HeldObject K))) → IsNotBelow places (length places)
       → process_object (objects_from f place places) v ≡ None
   absent-from place [] none = refl
   absent-from place (None ∷ places) none =
@@ -155,7 +156,7 @@ module _ {K : Type 0} (f : K → Object) (v : ℕ) where
       by_test true t rest = absurd (none 0 (omega arith) (ap Some (is_of (f kept.object) t)))
       by_test false t rest = rw t rest
 
-  found-from : (place k : ℕ) (places : List (Option (Kept K))) → IsNotBelow places k
+  found-from : (place k : ℕ) (places : List (Option (HeldObject K))) → IsNotBelow places k
       → object_shown f (slice_index_or places k None) ≡ Some (ProcessObject v)
       → process_object (objects_from f place places) v ≡ Some (2 * (place + k))
   found-from place k [] none at = absurd (cc)
@@ -178,11 +179,11 @@ module _ {K : Type 0} (f : K → Object) (v : ℕ) where
       by_test true t rest = absurd (none 0 (omega arith) (ap Some (is_of (f kept.object) t)))
       by_test false t rest = let n : place + suc k ≡ place + 1 + k = omega arith in rw (t, n) rest
 
-  pub process_object-absent : (places : List (Option (Kept K))) → IsNotBelow places (length places)
+  pub process_object-absent : (places : List (Option (HeldObject K))) → IsNotBelow places (length places)
       → process_object (objects_of f places) v ≡ None
   process_object-absent places none = absent-from 0 places none
 
-  pub process_object-first : (places : List (Option (Kept K))) (k : ℕ) → IsNotBelow places k
+  pub process_object-first : (places : List (Option (HeldObject K))) (k : ℕ) → IsNotBelow places k
       → object_shown f (slice_index_or places k None) ≡ Some (ProcessObject v)
       → process_object (objects_of f places) v ≡ Some (2 * k)
   process_object-first places k none at =

@@ -42,6 +42,9 @@ pub mod HandleEffects
 pub mod TerminalEffects
 pub mod MadeLaws
 pub mod EffectLaws
+pub mod CallerLaws
+pub mod PipedLaws
+pub mod NewProcessLaws
 pub mod KeepLaws
 pub mod StepLaws
 pub mod PlacedLaws

@@ -1,35 +1,70 @@
 //! Which threads are ready.
 
-ghost use Rattle.std.specs.Prelude.{◌≡◌};
+ghost use Rattle.std.specs.Prelude.{◌≡◌, ◌≤◌, Some, MatchOption};
+ghost use Rattle.win32_spec.specs.Lookup.{number_in};
 ghost use Rattle.win32_spec.specs.Named.{handles_by, named_by};
 ghost use Rattle.win32_spec.specs.Ready.{is_ready, is_handle_signalled, is_some_signalled, may_go};
 ghost use Rattle.win32_spec.specs.Ready.{is_first_end};
 ghost use Rattle.w32_machine.specs.Contract.{IsCaller, OnlyFew};
+ghost use Rattle.w32_machine.specs.Looking.{IsNoneFrom, IsFirstFrom, IsNoneAmong, IsFirstAmong};
 
 use crate::caller::Caller;
 use crate::kind::Kind;
 use crate::machine::Machine;
 use w32_base::{Call, HandleList, HandleNo, ObjectNo, Slot, ThreadNo};
 
+/// How many threads a process has at the most.
+const THREADS: u8 = 3;
+
 impl Machine {
-    // Whether a thread is ready.
-    pub(crate) fn is_ready(&self, slot: Slot, thread: ThreadNo) -> bool
-        ensures value { result ≡ is_ready self.now.win32 slot thread }
+    // The first ready thread in the slots from one place up to another, by slot and then thread. No slot past the last
+    // one is looked at.
+    pub(super) fn first_among(&self, from: usize, to: usize) -> Option<(Slot, ThreadNo)>
+        requires { to ≤ 65 }
+        ensures { MatchOption result (IsNoneAmong self.now.win32 from to)
+            (λ next. IsFirstAmong self.now.win32 from to next.0 next.1) }
+    {
+        for place in from..to.min(self.placed.len()) {
+            let slot = Slot::new(place as u8);
+            if let Some(thread) = self.first_from(slot, 0) {
+                return Some((slot, thread));
+            }
+        }
+        None
+    }
+
+    // The first ready thread in a slot, from this number on.
+    pub(super) fn first_from(&self, slot: Slot, from: u8) -> Option<ThreadNo>
+        ensures first { MatchOption result (IsNoneFrom self.now.win32 slot from)
+            (λ thread. IsFirstFrom self.now.win32 slot from thread) }
         ensures few { OnlyFew self.now.win32 }
     {
         let Some(process) = self.processes.in_slot(slot) else {
-            return false;
+            return None;
         };
-        if self.processes.count(slot, thread) != Some(0) {
+        for number in from..THREADS {
+            let thread = ThreadNo::new(number);
+            let by = Caller {
+                slot,
+                process,
+                thread,
+            };
+            if self.is_ready(&by) {
+                return Some(thread);
+            }
+        }
+        None
+    }
+
+    // Whether a thread of the process that stands in its slot is ready.
+    pub(super) fn is_ready(&self, by: &Caller) -> bool
+        requires { number_in self.now.win32 by.now.slot ≡ Some by.now.process }
+        ensures { result ≡ is_ready self.now.win32 by.now.slot by.now.thread }
+    {
+        if self.processes.count(by.slot, by.thread) != Some(0) {
             return false;
         }
-        let call = self.posted(slot, thread);
-        let by = Caller {
-            slot,
-            process,
-            thread,
-        };
-        self.may_go(&by, &call)
+        self.may_go(by, self.posted(by.slot, by.thread))
     }
 
     // Whether a call may be carried out: each but a wait may.

@@ -41,15 +41,15 @@ impl Machine {
         let Some(process) = self.processes.in_slot(slot) else {
             return None;
         };
-        if !self.is_ready(slot, thread) {
-            return None;
-        }
         let by = Caller {
             slot,
             process,
             thread,
         };
-        Some((by, self.posted(slot, thread)))
+        if !self.is_ready(&by) {
+            return None;
+        }
+        Some((by, *self.posted(slot, thread)))
     }
 
     // Carries out a call of a thread. A wait has something to take.

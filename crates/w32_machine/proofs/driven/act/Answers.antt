@@ -21,15 +21,18 @@ go_on-event-requires g c =
     ∙ is-alike c.in_slot.result c.args.by.process (sym c.ne.ensures ∙ c.if-ne.false) in
     record {
       caller = record { process = stands; thread = c.requires.call.caller.thread };
-      thread = mid_thread c.args.machine.now.script c.requires.serving.registers c.args.machine.now.win32 c.requires.call.formed
+      thread = mid_thread c.args.machine.now.script c.requires.serving.registers c.args.machine.now.win32
+          c.requires.call.formed
           c.args.by.slot c.args.by.thread c.args.by.process c.requires.call.process c.requires.call.thread
           c.requires.call.there c.requires.call.number c.args.call c.requires.call.posted c.carry_out-reply.result
           c.carry_out-reply.new.machine.win32 c.carry_out-reply.ensures.step stands;
-      part = some_there (part_stays c.args.machine.now.script c.requires.serving.registers c.args.machine.now.win32 c.requires.call.formed
+      part = some_there (part_stays c.args.machine.now.script c.requires.serving.registers c.args.machine.now.win32
+          c.requires.call.formed
           c.args.by.slot c.args.by.thread c.args.by.process c.requires.call.process c.requires.call.thread
           c.requires.call.there c.requires.call.number c.args.call c.requires.call.posted c.carry_out-reply.result
           c.carry_out-reply.new.machine.win32 c.carry_out-reply.ensures.step
-          g.P.Part.posted_of g.P.Part.goes g.P.Whole.opening g.P.Whole.slot_of g.P.Whole.thread_of c.args.parts.now.items
+          g.P.Part.posted_of g.P.Part.goes g.P.Whole.opening g.P.Whole.slot_of g.P.Whole.thread_of
+          c.args.parts.now.items
           c.carry_out-reply.new.parts.items c.requires.serving.served c.carry_out-reply.ensures.follow stands);
       places = c.carry_out-reply.ensures.places;
     }

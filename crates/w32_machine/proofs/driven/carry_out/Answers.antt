@@ -19,7 +19,8 @@ pub returns-in_default : goal.returns-in_default
 returns-in_default g c = record {
   step = c.carry_out-in_default.ensures.step;
   script = c.carry_out-in_default.ensures.script;
-  follow = all-same g.P.Part.posted_of g.P.Part.goes g.P.Whole.opening g.P.Whole.slot_of g.P.Whole.thread_of c.args.machine.now.win32
+  follow = all-same g.P.Part.posted_of g.P.Part.goes g.P.Whole.opening g.P.Whole.slot_of g.P.Whole.thread_of
+      c.args.machine.now.win32
       c.carry_out-in_default.new.self.win32 c.args.parts.now.items c.args.parts.now.items
       (call-numbers c.args.machine.now.win32 c.carry_out-in_default.new.self.win32 c.args.machine.now.script
       c.args.by.now.process c.args.by.now.thread c.args.call.now c.carry_out-in_default.result

@@ -1,6 +1,6 @@
 use Rattle.std.proofs.Common.{◌≡◌, None, sym, refl, true≢false}
 use Rattle.win32_spec.specs.Handles.{handle_of}
-use Rattle.w32_handles.proofs.PlaceLemmas.{named_at, absent_at, closed_at, rising_now, rising_after}
+use Rattle.w32_handles.proofs.TableLemmas.{named_at, absent_at, closed_at, rising_now, rising_after}
 use Rattle.w32_handles.proofs.handles.Handles.close.Goals as goal
 
 pub returns-in-Some-clause-absent : goal.returns-in-Some-clause-absent

@@ -1,5 +1,5 @@
 use Rattle.std.proofs.Common.{sym, refl}
-use Rattle.w32_handles.proofs.PlaceLemmas.{named_at, rising_now}
+use Rattle.w32_handles.proofs.TableLemmas.{named_at, rising_now}
 use Rattle.w32_handles.proofs.handles.Handles.get.Goals as goal
 
 pub returns-clause-named : goal.returns-clause-named

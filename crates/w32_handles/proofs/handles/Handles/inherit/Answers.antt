@@ -1,7 +1,8 @@
 use Rattle.std.proofs.Common.{◌≡◌, ◌∙◌, ◌+◌, ◌≤◌, ◌<◌, refl, sym, arith, None, Some, true≢false, length, slice_get}
 use Rattle.std.proofs.lemmas.List.{get_or_default}
-use Rattle.w32_handles.proofs.PlaceLemmas.{named_at, AreKept-none, AreKept-more, not_all_found, listed_at_end}
-use Rattle.w32_handles.proofs.PlaceLemmas.{all_found_at_end, past_end, AreRisingFrom-from, is_none_from, is_some_from}
+use Rattle.w32_handles.proofs.TableLemmas.{named_at, AreKept-none, AreKept-more, not_all_found, listed_at_end}
+use Rattle.w32_handles.proofs.PlaceLemmas.{AreRisingFrom-from}
+use Rattle.w32_handles.proofs.TableLemmas.{all_found_at_end, past_end, is_none_from, is_some_from}
 use Rattle.w32_handles.proofs.handles.Handles.inherit.Goals as goal
 
 pub loop-next-init : goal.loop-next-init

@@ -1,4 +1,4 @@
-use Rattle.w32_handles.proofs.PlaceLemmas.{AreKept}
+use Rattle.w32_handles.proofs.TableLemmas.{AreKept}
 use Rattle.w32_handles.proofs.handles.Handles.inherit.Given as goal
 
 abbrev pub invariant-loop-next : goal.invariant-loop-next

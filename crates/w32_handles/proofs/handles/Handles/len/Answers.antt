@@ -1,6 +1,6 @@
 use Rattle.std.proofs.Common.{◌≡◌, arith, take}
 use Rattle.std.proofs.lemmas.List.{take_all}
-use Rattle.w32_handles.proofs.PlaceLemmas.{length-handles_from}
+use Rattle.w32_handles.proofs.TableLemmas.{length-handles_from}
 use Rattle.w32_handles.proofs.handles.Handles.len.Goals as goal
 
 pub returns : goal.returns

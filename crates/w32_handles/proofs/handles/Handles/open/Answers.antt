@@ -1,5 +1,5 @@
 use Rattle.std.proofs.Common.{sym, refl, arith, true≢false}
-use Rattle.w32_handles.proofs.PlaceLemmas.{lowest_at, opened_at, not_full_at, full_now, rising_now, rising_after}
+use Rattle.w32_handles.proofs.TableLemmas.{lowest_at, opened_at, not_full_at, full_now, rising_now, rising_after}
 use Rattle.w32_handles.proofs.handles.Handles.open.Goals as goal
 
 pub returns-in-Some-clause-full : goal.returns-in-Some-clause-full

@@ -10,7 +10,8 @@ use Rattle.w32_machine.proofs.driven.Driven.end.Goals as goal
 pub invariant_of-self : goal.invariant_of-self
 invariant_of-self g c =
     let m = c.self.inside in
-    let follow = all-follow g.P.Part.posted_of g.P.Part.goes g.P.Whole.opening g.P.Whole.slot_of g.P.Whole.thread_of m.machine.win32
+    let follow = all-follow g.P.Part.posted_of g.P.Part.goes g.P.Whole.opening g.P.Whole.slot_of g.P.Whole.thread_of
+    m.machine.win32
     c.end-ended.new.self.win32 m.parts.items c.follow.new.parts.items c.args.slot c.stands_in-before.result
     c.stands_in-before.ensures.value
     (end-slots m.machine.script m.machine.win32 c.stands_in-before.ensures.formed.formed c.args.slot
@@ -37,7 +38,8 @@ returns-clause-driven g c =
       refl,
       c.end-ended.ensures.step.1,
       refl,
-      all-follow g.P.Part.posted_of g.P.Part.goes g.P.Whole.opening g.P.Whole.slot_of g.P.Whole.thread_of m.machine.win32
+      all-follow g.P.Part.posted_of g.P.Part.goes g.P.Whole.opening g.P.Whole.slot_of g.P.Whole.thread_of
+          m.machine.win32
           c.end-ended.new.self.win32 m.parts.items c.follow.new.parts.items c.args.slot c.stands_in-before.result
           c.stands_in-before.ensures.value
           (end-slots m.machine.script m.machine.win32 c.stands_in-before.ensures.formed.formed c.args.slot

@@ -11,7 +11,8 @@ use Rattle.w32_machine.proofs.driven.Driven.turn.Goals as goal
 
 pub returns-in_default-clause-driven : goal.returns-in_default-clause-driven
 returns-in_default-clause-driven g c =
-    rw (← c.self.view_is) (idle-step g.P.Part.posted_of g.P.Part.goes g.P.Whole.opening g.P.Whole.slot_of g.P.Whole.thread_of
+    rw (← c.self.view_is)
+    (idle-step g.P.Part.posted_of g.P.Part.goes g.P.Whole.opening g.P.Whole.slot_of g.P.Whole.thread_of
     c.self.inside.machine.script
     (record { win32 = c.self.inside.machine.win32; parts = c.self.inside.parts.items; last = c.self.inside.last })
     (record { win32 = c.self.inside.machine.win32; parts = c.self.inside.parts.items; last = None })
@@ -19,7 +20,8 @@ returns-in_default-clause-driven g c =
 
 pub returns-in_default-clause-step : goal.returns-in_default-clause-step
 returns-in_default-clause-step g c =
-    rw (← c.self.view_is) (driven_step g.P.Part.posted_of g.P.Part.goes g.P.Whole.opening g.P.Whole.slot_of g.P.Whole.thread_of
+    rw (← c.self.view_is)
+    (driven_step g.P.Part.posted_of g.P.Part.goes g.P.Whole.opening g.P.Whole.slot_of g.P.Whole.thread_of
     (λ p q o n s r a went. g.met.P.Part.keeps_lengths p q o n s r a (g.met.P.Whole.is_never_done p) went)
     c.self.inside.machine.script
     (record { win32 = c.self.inside.machine.win32; parts = c.self.inside.parts.items; last = c.self.inside.last })
@@ -46,12 +48,22 @@ invariant_of-self-2 g c = record {
       c.self.inside.machine.script c.self.invariant.registers
       (record { win32 = c.self.inside.machine.win32; parts = c.self.inside.parts.items; last = c.self.inside.last })
       c.in-Some.ensures.formed c.self.invariant.served
-      (record { win32 = c.act-turned.new.machine.win32; parts = c.act-turned.new.parts.items; last = c.event-self-inside.result })
+      (record {
+        win32 = c.act-turned.new.machine.win32;
+        parts = c.act-turned.new.parts.items;
+        last =
+            c.event-self-inside.result;
+      })
       (directive.Turn c.args.slot c.args.thread) (called_by c.act-turned.result) (came_by c.act-turned.result)
       (done-step g.P.Part.posted_of g.P.Part.goes g.P.Whole.opening g.P.Whole.slot_of g.P.Whole.thread_of
       c.self.inside.machine.script
       (record { win32 = c.self.inside.machine.win32; parts = c.self.inside.parts.items; last = c.self.inside.last })
-      (record { win32 = c.act-turned.new.machine.win32; parts = c.act-turned.new.parts.items; last = c.event-self-inside.result })
+      (record {
+        win32 = c.act-turned.new.machine.win32;
+        parts = c.act-turned.new.parts.items;
+        last =
+            c.event-self-inside.result;
+      })
       c.args.slot c.args.thread c.act-turned.result c.in-Some.ensures.ready c.event-self-inside.ensures
       (subst (λ a. DoneBy g.P.Part.posted_of g.P.Part.goes g.P.Whole.opening g.P.Whole.slot_of
       g.P.Whole.thread_of c.self.inside.machine.script
@@ -68,10 +80,16 @@ invariant_of-self-2 g c = record {
 
 pub returns-clause-driven : goal.returns-clause-driven
 returns-clause-driven g c =
-    rw (← c.self.view_is) (done-step g.P.Part.posted_of g.P.Part.goes g.P.Whole.opening g.P.Whole.slot_of g.P.Whole.thread_of
+    rw (← c.self.view_is)
+    (done-step g.P.Part.posted_of g.P.Part.goes g.P.Whole.opening g.P.Whole.slot_of g.P.Whole.thread_of
     c.self.inside.machine.script
     (record { win32 = c.self.inside.machine.win32; parts = c.self.inside.parts.items; last = c.self.inside.last })
-    (record { win32 = c.act-turned.new.machine.win32; parts = c.act-turned.new.parts.items; last = c.event-self-inside.result })
+    (record {
+      win32 = c.act-turned.new.machine.win32;
+      parts = c.act-turned.new.parts.items;
+      last =
+          c.event-self-inside.result;
+    })
     c.args.slot c.args.thread c.act-turned.result c.in-Some.ensures.ready c.event-self-inside.ensures
     (subst (λ a. DoneBy g.P.Part.posted_of g.P.Part.goes g.P.Whole.opening g.P.Whole.slot_of
     g.P.Whole.thread_of c.self.inside.machine.script
@@ -85,16 +103,27 @@ returns-clause-driven g c =
 
 pub returns-clause-step : goal.returns-clause-step
 returns-clause-step g c =
-    rw (← c.self.view_is) (driven_step g.P.Part.posted_of g.P.Part.goes g.P.Whole.opening g.P.Whole.slot_of g.P.Whole.thread_of
+    rw (← c.self.view_is)
+    (driven_step g.P.Part.posted_of g.P.Part.goes g.P.Whole.opening g.P.Whole.slot_of g.P.Whole.thread_of
     (λ p q o n s r a went. g.met.P.Part.keeps_lengths p q o n s r a (g.met.P.Whole.is_never_done p) went)
     c.self.inside.machine.script
     (record { win32 = c.self.inside.machine.win32; parts = c.self.inside.parts.items; last = c.self.inside.last })
     (directive.Turn c.args.slot c.args.thread) (called_by c.act-turned.result) (came_by c.act-turned.result)
-    (record { win32 = c.act-turned.new.machine.win32; parts = c.act-turned.new.parts.items; last = c.event-self-inside.result })
+    (record {
+      win32 = c.act-turned.new.machine.win32;
+      parts = c.act-turned.new.parts.items;
+      last =
+          c.event-self-inside.result;
+    })
     (done-step g.P.Part.posted_of g.P.Part.goes g.P.Whole.opening g.P.Whole.slot_of g.P.Whole.thread_of
     c.self.inside.machine.script
     (record { win32 = c.self.inside.machine.win32; parts = c.self.inside.parts.items; last = c.self.inside.last })
-    (record { win32 = c.act-turned.new.machine.win32; parts = c.act-turned.new.parts.items; last = c.event-self-inside.result })
+    (record {
+      win32 = c.act-turned.new.machine.win32;
+      parts = c.act-turned.new.parts.items;
+      last =
+          c.event-self-inside.result;
+    })
     c.args.slot c.args.thread c.act-turned.result c.in-Some.ensures.ready c.event-self-inside.ensures
     (subst (λ a. DoneBy g.P.Part.posted_of g.P.Part.goes g.P.Whole.opening g.P.Whole.slot_of
     g.P.Whole.thread_of c.self.inside.machine.script

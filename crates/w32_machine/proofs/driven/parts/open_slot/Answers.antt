@@ -9,11 +9,13 @@ returns-clause-here g c =
     let s = c.args.machine.now.win32 in
     let parts = c.args.parts.now.items in
     let slot = c.args.slot in
-    let within : 3 * slot + 2 < 195 = omega (arith, c.place-3.ensures.value, c.place-3.ensures.within, c.new-6.ensures) in
+    let within : 3 * slot + 2 < 195 =
+    omega (arith, c.place-3.ensures.value, c.place-3.ensures.within, c.new-6.ensures) in
     let first : c.place.result ≡ 3 * slot + 0 = omega (arith, c.place.ensures.value, c.new-2.ensures) in
     let second : c.place-2.result ≡ 3 * slot + 1 = omega (arith, c.place-2.ensures.value, c.new-4.ensures) in
     let third : c.place-3.result ≡ 3 * slot + 2 = omega (arith, c.place-3.ensures.value, c.new-6.ensures) in
-    opens-slot g.P.Part.posted_of g.P.Part.goes g.P.Whole.opening g.P.Whole.slot_of g.P.Whole.thread_of s slot c.part_of.ensures.few
+    opens-slot g.P.Part.posted_of g.P.Part.goes g.P.Whole.opening g.P.Whole.slot_of g.P.Whole.thread_of s slot
+    c.part_of.ensures.few
     (three_set parts slot c.place.result c.place-2.result c.place-3.result c.requires within first second third
     c.part_of.result c.part_of-2.result c.part_of-3.result)
     c.part_of.result c.part_of-2.result c.part_of-3.result
@@ -35,7 +37,8 @@ returns-clause-here g c =
 pub returns-clause-others : goal.returns-clause-others
 returns-clause-others g c =
     let slot = c.args.slot in
-    let within : 3 * slot + 2 < 195 = omega (arith, c.place-3.ensures.value, c.place-3.ensures.within, c.new-6.ensures) in
+    let within : 3 * slot + 2 < 195 =
+    omega (arith, c.place-3.ensures.value, c.place-3.ensures.within, c.new-6.ensures) in
     let first : c.place.result ≡ 3 * slot + 0 = omega (arith, c.place.ensures.value, c.new-2.ensures) in
     let second : c.place-2.result ≡ 3 * slot + 1 = omega (arith, c.place-2.ensures.value, c.new-4.ensures) in
     let third : c.place-3.result ≡ 3 * slot + 2 = omega (arith, c.place-3.ensures.value, c.new-6.ensures) in

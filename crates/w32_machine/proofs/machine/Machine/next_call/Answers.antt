@@ -15,19 +15,24 @@ returns-in_default c = record {
       c.in_slot.ensures.value c.in_default.is));
 }
 
+pub is_ready-requires : goal.is_ready-requires
+is_ready-requires c =
+    here c.self.inside c.self.invariant c.args.self.now c.self.view_is c.args.slot _ c.in_slot.result
+    c.in_slot.ensures.value c.in-Some.is
+
 pub posted-requires : goal.posted-requires
 posted-requires c =
     ready-thread c.args.self.now.script c.args.self.now.win32
     (subst (λ (r : Running). IsWellFormed r.script r.win32) c.self.view_is c.self.invariant.state).formed
-    c.args.slot c.args.thread (sym c.is_ready.ensures.value ∙ c.if-not-is_ready.false)
+    c.args.slot c.args.thread (sym c.is_ready.ensures ∙ c.if-not-is_ready.false)
 
 pub returns : goal.returns
 returns c =
     let formed = subst (λ (r : Running). IsWellFormed r.script r.win32) c.self.view_is c.self.invariant.state in
-    let ready = sym c.is_ready.ensures.value ∙ c.if-not-is_ready.false in
+    let ready = sym c.is_ready.ensures ∙ c.if-not-is_ready.false in
     let some = subst (λ (r : Running). IsSome (thread_at r.win32 c.args.slot c.args.thread)) (sym c.self.view_is)
     (ready-thread c.args.self.now.script c.args.self.now.win32 formed.formed c.args.slot c.args.thread ready) in
-    next-call c.args.self.now formed c.args.slot c.args.thread c.in-Some.process c.posted.result ready
+    next-call c.args.self.now formed c.args.slot c.args.thread c.in-Some.process c.posted.result.now ready
     (here c.self.inside c.self.invariant c.args.self.now c.self.view_is c.args.slot _ c.in_slot.result
     c.in_slot.ensures.value c.in-Some.is)
     (few c.self.inside c.self.invariant c.args.slot c.args.thread some) c.posted.ensures

@@ -46,5 +46,6 @@ invariant_of-result-3 c =
 
 pub returns-clause-opening : goal.returns-clause-opening
 returns-clause-opening c =
-    is-opening-by c.args.script.now c.in_ok-objects.numbers c.first_placements-placed.result (inside c) (are-first c) _ _
+    is-opening-by c.args.script.now c.in_ok-objects.numbers c.first_placements-placed.result (inside c) (are-first c) _
+    _
     c.processes.view_is (ap (λ (t : Table Kind). t.places) c.objects.view_is)

@@ -1,4 +1,5 @@
-use Rattle.std.proofs.Common.{◌∙◌, slice_index_or, ◌+◌, ◌∷◌, [], List, take, sym, ap, subst, arith, length, length-append}
+use Rattle.std.proofs.Common.{◌∙◌, slice_index_or, ◌+◌, ◌∷◌, [], List, take, sym, ap, subst, arith, length}
+use Rattle.std.proofs.Common.{length-append}
 use Rattle.w32_base.specs.declared.setup.Module.{Module}
 use Rattle.win32_spec.specs.State.{PlacedModule}
 use Rattle.win32_spec.specs.Opening.{ArePlaced}
