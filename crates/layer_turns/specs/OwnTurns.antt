@@ -45,7 +45,8 @@ answers rest next own r0 e =
     then record { part = next; own = with_image own (with_result (image_of own) r0 None); event = Some e }
     else goes_to rest own
 
--- What is asked of a turn: it lowers the rank from this one, unless it may keep it, and keeps the length of each region.
+-- What is asked of a turn: it lowers the rank from this one, unless it may keep it, and keeps the length of each
+-- region.
 pub record IsFair {P : Type 0} (rank : P → ℕ) (posted : Call) (before : ℕ) (r : Reply) (own : Own) (turn : OwnTurn P)
     : Type 0 where
   pub lowers : may_keep_rank posted r turn.event ≡ false → rank turn.part < before

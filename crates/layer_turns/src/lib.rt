@@ -1,5 +1,6 @@
-//! What the parts of the layer share that carry out a program's calls: turns that change own bytes, the result of a call,
-//! the words of a row, the calls by fixed handles, and parts of `roster` inside a bigger part. No call takes memory.
+//! What the parts of the layer share that carry out a program's calls: turns that change own bytes, the result of a
+//! call, the words of a row, the calls by fixed handles, and parts of `roster` inside a bigger part. No call takes
+//! memory.
 #![tactic(auto)]
 
 mod calls;

@@ -27,8 +27,8 @@ idle_row step idle row =
     subst (λ s. RowStays step.before.win32 s row) (sym idle.win32) (record { main = refl; group = refl; exit = refl })
 
 module _ {A : Type 0} (script : Script) (step : HistoryStep A) (seen : IsSeenStep script step) where
-  -- A row that the main thread of process w claimed, and that is neither published nor dropped, outlasts each step beside
-  -- that thread.
+  -- A row that the main thread of process w claimed, and that is neither published nor dropped, outlasts each step
+  -- beside that thread.
   pub claim-stays : (w row : ℕ) → IsBeside step w 0 → IsClaimedBy step.past row w
       → is_open_main (main_of (main_at step.before.win32 row)) ≡ true → RowStays step.before.win32 step.after.win32 row
   claim-stays w row beside claimed is_open = elim beside [

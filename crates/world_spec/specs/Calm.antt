@@ -1,5 +1,5 @@
--- Changes that touch nothing which is shown: the words of the section, the terminal, and of each live process its image,
--- cygheap, modules, suspend counts and handles stay; handles may come. Most turns make no other.
+-- Changes that touch nothing which is shown: the words of the section, the terminal, and of each live process its
+-- image, cygheap, modules, suspend counts and handles stay; handles may come. Most turns make no other.
 use Rattle.std.specs.Prelude.{◌≡◌, ℕ, Bool, true, false, Option, Some, None}
 use Rattle.w32_base.specs.Part.{KeepsImage}
 use Rattle.w32_base.specs.declared.call.Call.{Call}

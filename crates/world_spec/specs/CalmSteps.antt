@@ -87,7 +87,7 @@ not_host script s h p e alive from n =
     by_program (Some program_no) layer = omega (arith, layer.number, n)
 
 -- another posted call leaves suspend counts alone
-same_suspended : (u : ℕ) (next : Call) (xs : List Thread) (t : ℕ)
+pub same_suspended : (u : ℕ) (next : Call) (xs : List Thread) (t : ℕ)
     → suspended_by (thread_in (change_thread u (λ x. record x { posted = next }) xs) t) ≡ suspended_by (thread_in xs t)
 same_suspended u next [] t = refl
 same_suspended u next (x ∷ xs) t =

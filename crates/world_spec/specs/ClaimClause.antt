@@ -1,5 +1,5 @@
--- The clause of a claim of `roster`: what the main thread of a running process knows of the row that it claims, from its
--- first step to the row held. It is the first piece of the clause of a fork.
+-- The clause of a claim of `roster`: what the main thread of a running process knows of the row that it claims, from
+-- its first step to the row held. It is the first piece of the clause of a fork.
 use Rattle.std.specs.Prelude.{◌≡◌, ℕ, ◌≤◌, List, Some}
 use Rattle.script_spec.specs.declared.script.Script.{Script}
 use Rattle.win32_spec.specs.State.{Win32State}

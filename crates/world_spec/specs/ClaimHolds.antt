@@ -30,9 +30,8 @@ use Rattle.roster.specs.declared.claim.Claim.TheVariants as claim
 use Rattle.roster.specs.RosterChanges.{ChangesMain}
 use Rattle.roster.specs.Turns.{by_word}
 use Rattle.roster.specs.Words.{changed_word, is_live_word}
-use Rattle.world_spec.specs.Facts.{code_given}
 use Rattle.world_spec.specs.Calm.{IsCalm, AreCalm, is_plain_call, is_plain}
-use Rattle.world_spec.specs.CalmLaws.{processes-kept, calm_shown}
+use Rattle.world_spec.specs.CalmLaws.{processes-kept, calm_shown, nobody-ends}
 use Rattle.world_spec.specs.CalmSteps.{calm-acts, calm_process}
 use Rattle.world_spec.specs.ClaimClause.{HasClaimed, HoldsRow, ClaimClause}
 use Rattle.world_spec.specs.ClaimTurns.{ClaimGoes, claim_thread, same_bytes, looks_on, by_reply, quiet}
@@ -73,14 +72,17 @@ far : (row rows i : ℕ) → 1 ≤ row → row ≤ rows → exit_place rows < i 
 far row rows i from within above e = omega arith
 
 module _ {A : Type 0} (script : Script) (past : List (Seen A)) (now : Moment A) (slot row old n : ℕ) (called : Call)
-    (reply : Reply) (given : Option Event) (next : Option Claim) (new : Win32State) (sound : IsSoundMoment script past now)
-    (turn : OwnTurn claim_posted ClaimGoes script now.win32 slot 0 (claim.Holding row old n) called reply given next new)
+    (reply : Reply) (given : Option Event) (next : Option Claim) (new : Win32State)
+    (sound : IsSoundMoment script past now)
+    (turn : OwnTurn claim_posted ClaimGoes script now.win32 slot 0
+    (claim.Holding row old n) called reply given next new)
     (h : HasClaimed script past now.win32 turn.process.number row) (word : changed_word Hold old ≡ Some n) where
   abbrev w : ℕ
   w = turn.process.number
 
   abbrev Result : Type 0
-  Result = KeepsTurn claim_posted ClaimGoes claim_thread (ClaimClause script) script past now slot 0 w called reply given
+  Result = KeepsTurn claim_posted ClaimGoes claim_thread
+      (ClaimClause script) script past now slot 0 w called reply given
       next new
 
   its_call : called ≡ call.CompareExchange 1 (main_place row) old n
@@ -100,7 +102,8 @@ module _ {A : Type 0} (script : Script) (past : List (Seen A)) (now : Moment A) 
       (λ later after kept. by_reply script later after w (claim_tried row old) reply
       (λ x e. by_found later after x (nat_eq x old) refl e kept))
     where
-      by_found : (later : List (Seen A)) (after : Moment A) (x : ℕ) (b : Bool) → nat_eq x old ≡ b → reply ≡ answer.Word x
+      by_found : (later : List (Seen A)) (after : Moment A) (x : ℕ) (b : Bool) → nat_eq x old ≡ b
+          → reply ≡ answer.Word x
           → HasClaimed script later after.win32 w row
           → ClaimClause script later after w (if b then claim.Claimed row else claim_looked row x)
       by_found later after x true e is kept =
@@ -115,7 +118,8 @@ module _ {A : Type 0} (script : Script) (past : List (Seen A)) (now : Moment A) 
     on : LivesOn claim_posted ClaimGoes script turn.mid w 0 (claim.Holding row old n) reply given next new
     on = by_bool (is_live (process_of turn.mid.processes w)) (λ live m. m)
         (λ dead m. absurd (
-        let live = own_lives claim_posted ClaimGoes script past now slot 0 (claim.Holding row old n) called reply given next
+        let live = own_lives claim_posted ClaimGoes script past now slot 0
+        (claim.Holding row old n) called reply given next
         new sound turn in
         let e : true ≡ false = sym (mid_lives w live) ∙ dead in cc)) turn.goes_on
 
@@ -146,7 +150,8 @@ module _ {A : Type 0} (script : Script) (past : List (Seen A)) (now : Moment A) 
     change : ChangesMain now.win32 new row Hold
     change = record {
       from = h.from;
-      changed = ap (changed_word Hold) won.was ∙ (word ∙ ap (λ k. Some k) (sym (acts.words (main_place row) ∙ won.now)));
+      changed = ap (changed_word Hold) won.was ∙ (word ∙ ap (λ k. Some k)
+          (sym (acts.words (main_place row) ∙ won.now)));
       others = others;
     }
 
@@ -204,7 +209,7 @@ module _ {A : Type 0} (script : Script) (past : List (Seen A)) (now : Moment A) 
         words = main-kept (step parts) row Hold (may parts);
         processes = processes-kept (step parts) calm
             (λ v written. subst (λ c. IsWriteTo now.win32 written.0 c v) its_call written.2)
-            (ap (λ c. code_given (Some c)) its_call);
+            (nobody-ends (step parts) (λ no_end v live. still v live));
         host = λ live. still 1 live;
       };
     }
@@ -225,10 +230,12 @@ module _ {A : Type 0} (script : Script) (past : List (Seen A)) (now : Moment A) 
       shows = shows;
       stands = λ parts.
           let is : on.part_after ≡ claim.Claimed row =
-          on.went.part ∙ (ap (λ r. by_word claim.Rest (claim_tried row old) r) won.found ∙ rw (same old old refl) refl) in
+          on.went.part ∙ (ap (λ r. by_word claim.Rest (claim_tried row old) r) won.found
+          ∙ rw (same old old refl) refl) in
           subst (λ o. MatchOption o (Unit {0}) (λ q. ClaimClause script (seen_with (step parts))
           (record { win32 = new; parts = parts; posix = now.posix }) w q)) (sym on.here)
-          (subst (ClaimClause script (seen_with (step parts)) (record { win32 = new; parts = parts; posix = now.posix }) w)
+          (subst (ClaimClause script (seen_with (step parts))
+          (record { win32 = new; parts = parts; posix = now.posix }) w)
           (sym is) (held_now parts));
     }
 

@@ -58,13 +58,15 @@ looks_on script past now w row x h = by_held (changed_word Hold x) refl
     by_held None e = tt
     by_held (Some new) e = (h, e)
 
-pub by_reply : {A : Type 0} → (script : Script) (past : List (Seen A)) (now : Moment A) (w : ℕ) (f : ℕ → Claim) (r : Reply)
+pub by_reply : {A : Type 0} → (script : Script) (past : List (Seen A)) (now : Moment A) (w : ℕ) (f : ℕ → Claim)
+    (r : Reply)
     → ((x : ℕ) → r ≡ reply.Word x → ClaimClause script past now w (f x))
     → ClaimClause script past now w (by_word claim.Rest f r)
 by_reply script past now w f (reply.Word x) h = h x refl
 by_reply script past now w f r h = tt
 
-module _ {A : Type 0} (script : Script) (past : List (Seen A)) (now : Moment A) (slot row : ℕ) (called : Call) (reply : Reply)
+module _ {A : Type 0} (script : Script) (past : List (Seen A)) (now : Moment A) (slot row : ℕ) (called : Call)
+    (reply : Reply)
     (given : Option Event) (next : Option Claim) (new : Win32State) (sound : IsSoundMoment script past now) where
   -- a calm turn of a claim from a row that it has claimed
   pub quiet : (part : Claim)
@@ -75,14 +77,18 @@ module _ {A : Type 0} (script : Script) (past : List (Seen A)) (now : Moment A) 
       → is_plain_call called ≡ true
       → ((later : List (Seen A)) (after : Moment A) → HasClaimed script later after.win32 turn.process.number row
       → ClaimClause script later after turn.process.number (claim_after script.setup part reply))
-      → KeepsTurn claim_posted ClaimGoes claim_thread (ClaimClause script) script past now slot 0 turn.process.number called
+      → KeepsTurn claim_posted ClaimGoes claim_thread (ClaimClause script) script past now slot 0 turn.process.number
+      called
       reply given next new
   quiet part turn h calm lives plain clause =
-      let on = quiet-lives claim_posted ClaimGoes script past now slot 0 part called reply given next new sound turn calm
+      let on = quiet-lives claim_posted ClaimGoes script past now slot 0 part called reply given next new sound turn
+      calm
       lives plain in
-      let shows = quiet-turn claim_posted ClaimGoes script past now slot 0 part called reply given next new sound turn calm
+      let shows = quiet-turn claim_posted ClaimGoes script past now slot 0 part called reply given next new sound turn
+      calm
       lives plain
-      (λ q own answer went. same_bytes part q (memory_by turn.mid turn.process.number) own script.setup reply answer went) in
+      (λ q own answer went. same_bytes part q (memory_by turn.mid turn.process.number) own script.setup reply answer
+      went) in
       let words : (i : ℕ) → word_in new i ≡ word_in now.win32 i = λ i. ap (λ s. word_in s i) on.after ∙ calm.words i in
       record {
         told = None;
@@ -90,7 +96,8 @@ module _ {A : Type 0} (script : Script) (past : List (Seen A)) (now : Moment A) 
         posix = now.posix;
         shows = shows;
         stands = λ parts.
-            let step = turn_step past now (record { win32 = new; parts = parts; posix = now.posix }) slot 0 called reply None in
+            let step = turn_step past now (record { win32 = new; parts = parts; posix = now.posix }) slot 0 called reply
+            None in
             let kept : HasClaimed script (seen_with step) new turn.process.number row = record {
               from = h.from;
               within = h.within;
@@ -109,9 +116,11 @@ module _ {A : Type 0} (script : Script) (past : List (Seen A)) (now : Moment A) 
       }
 
   -- The look at the row.
-  pub claim-looks : (turn : OwnTurn claim_posted ClaimGoes script now.win32 slot 0 (claim.Looking row) called reply given next
+  pub claim-looks : (turn : OwnTurn claim_posted ClaimGoes script now.win32 slot 0
+      (claim.Looking row) called reply given next
       new) → ClaimClause script past now turn.process.number (claim.Looking row)
-      → KeepsTurn claim_posted ClaimGoes claim_thread (ClaimClause script) script past now slot 0 turn.process.number called
+      → KeepsTurn claim_posted ClaimGoes claim_thread (ClaimClause script) script past now slot 0 turn.process.number
+      called
       reply given next new
   claim-looks turn h =
       let step : CallStep script now.win32 turn.process.number 0 (call.Load 1 (main_place row)) reply turn.mid =

@@ -1,5 +1,5 @@
--- Rows and images go on to show the POSIX state where the words of the section, the terminal, and what the live processes
--- show of themselves stay.
+-- Rows and images go on to show the POSIX state where the words of the section, the terminal, and what the live
+-- processes show of themselves stay.
 use Rattle.std.proofs.Common.{◌≡◌, ℕ, ◌+◌, ◌≤◌, true, false, Option, Some, None, MatchOption, sym, ap, ◌∙◌}
 use Rattle.std.proofs.Common.{subst}
 use Rattle.w32_base.specs.Part.{KeepsImage}
@@ -29,7 +29,7 @@ abbrev pub AreShownTheSame : Win32State → Win32State → Type 0
 AreShownTheSame s new = (v : ℕ) (q : Process) → process_of new.processes v ≡ Some q → is_alive q.life ≡ true
     → (p : Process) × WasTheSame s p q v
 
-same_image : (p q : Own) → KeepsImage p q → image_of q ≡ image_of p
+pub same_image : (p q : Own) → KeepsImage p q → image_of q ≡ image_of p
 same_image p q k =
     ap (λ d. let i : Image = record { dat = d; heap = q.heap; stack = q.stack } in i) k.dat
     ∙ (ap (λ h. let i : Image = record { dat = p.dat; heap = h; stack = q.stack } in i) k.heap
@@ -82,7 +82,8 @@ module _ (script : Script) (s new : Win32State) (p : PosixState) (stays : AreSho
     where
       by_record : (o : Option Record)
           → MatchOption o (is_process_kind h.main.kind ≡ false) (λ r. ShowsRecord script (λ q. q.own) s p row h.main r)
-          → MatchOption o (is_process_kind h.main.kind ≡ false) (λ r. ShowsRecord script (λ q. q.own) new p row h.main r)
+          → MatchOption o (is_process_kind h.main.kind ≡ false)
+          (λ r. ShowsRecord script (λ q. q.own) new p row h.main r)
       by_record None m = m
       by_record (Some r) m = record_stays row h.main r group m
 

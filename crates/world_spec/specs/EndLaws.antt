@@ -39,13 +39,15 @@ section_words-left : (ps : List Process) (w low : ℕ) (xs : List NumberedObject
 section_words-left ps w low [] r held = refl
 section_words-left ps w low (x ∷ xs) r held =
     by_object x.object refl
-    (section_words-left ps w (x.number + 1) xs r.2 (λ o words e. held o words (found-later low x xs r o (Section words) e)))
+    (section_words-left ps w (x.number + 1) xs r.2 (λ o words e. held o words
+    (found-later low x xs r o (Section words) e)))
   where
     rest : Option (List ℕ)
     rest = section_words (held_objects ps (objects_left_by w xs))
 
     -- whether it is held or not, an object without words is passed over
-    passed : (y : Object) → x.object ≡ y → words_or (object_left_by w y) rest ≡ rest → words_or y (section_words xs) ≡ section_words xs
+    passed : (y : Object) → x.object ≡ y → words_or (object_left_by w y) rest ≡ rest
+        → words_or y (section_words xs) ≡ section_words xs
         → rest ≡ section_words xs
         → section_words (held_objects ps (objects_left_by w (x ∷ xs))) ≡ section_words (x ∷ xs)
     passed y is left whole e =
@@ -57,7 +59,8 @@ section_words-left ps w low (x ∷ xs) r held =
       where
         by_test : (b : Bool) → words_or (object_left_by w x.object) rest ≡ rest
             → words_or x.object (section_words xs) ≡ section_words xs
-            → section_words (if b then (record x { object = object_left_by w x.object }) ∷ held_objects ps (objects_left_by w xs)
+            → section_words (if b then (record x { object = object_left_by w x.object }) ∷ held_objects ps
+            (objects_left_by w xs)
             else held_objects ps (objects_left_by w xs)) ≡ words_or x.object (section_words xs)
         by_test true gone there = gone ∙ (e ∙ sym there)
         by_test false gone there = e ∙ sym there
@@ -99,7 +102,8 @@ terminal_in-left ps w low (x ∷ xs) r held =
       where
         by_test : (b : Bool) → terminal_or (object_left_by w x.object) rest ≡ rest
             → terminal_or x.object (terminal_in xs) ≡ terminal_in xs
-            → terminal_in (if b then (record x { object = object_left_by w x.object }) ∷ held_objects ps (objects_left_by w xs)
+            → terminal_in (if b then (record x { object = object_left_by w x.object }) ∷ held_objects ps
+            (objects_left_by w xs)
             else held_objects ps (objects_left_by w xs)) ≡ terminal_or x.object (terminal_in xs)
         by_test true gone there = gone ∙ (e ∙ sym there)
         by_test false gone there = e ∙ sym there
@@ -125,7 +129,8 @@ named_found s w h x e = by_name (named_by s w h) refl e
     by_name None n f = absurd (cc)
     by_name (Some names) n f = (names, n, f)
 
-module _ (script : Script) (s : Win32State) (h : IsWellFormed script s) (hosted : IsHosted s) (w code : ℕ) (d : w ≢ 1) where
+module _ (script : Script) (s : Win32State) (h : IsWellFormed script s) (hosted : IsHosted s) (w code : ℕ)
+    (d : w ≢ 1) where
   abbrev ended : List Process
   ended = change_process w (ended_process code) s.processes
 
@@ -145,7 +150,8 @@ module _ (script : Script) (s : Win32State) (h : IsWellFormed script s) (hosted 
       })
 
   -- so is each object that is the only one of its kind, where the host names one of the kind
-  only_held : (k : ℕ) (x : Object) (number : ℕ) → object_by s 1 k ≡ Some x → only_number x ≡ Some number → (o : ℕ) (y : Object)
+  only_held : (k : ℕ) (x : Object) (number : ℕ) → object_by s 1 k ≡ Some x → only_number x ≡ Some number → (o : ℕ)
+      (y : Object)
       → object_of s.objects o ≡ Some y → only_number y ≡ Some number → is_object_held ended o ≡ true
   only_held k x number e one o y f other =
       let at = named_found s 1 k x e in

@@ -1,5 +1,5 @@
--- What a compare-exchange comes to: it found the old word, and this one word changed; or it found another one or no word,
--- and nothing changed.
+-- What a compare-exchange comes to: it found the old word, and this one word changed; or it found another one or no
+-- word, and nothing changed.
 use Rattle.std.proofs.Common.{◌≡◌, ◌≢◌, ◌⊎◌, inl, inr, ℕ, ◌<◌, Bool, true, false, nat_eq, nat_lt, if◌then◌else◌, List}
 use Rattle.std.proofs.Common.{Option}
 use Rattle.std.proofs.Common.{Some, None, slice_index, slice_set, length, refl, sym, ap, ◌∙◌, subst}
@@ -36,13 +36,15 @@ pub record FindsOther (s : Win32State) (old : ℕ) (r : Reply) (mid : Win32State
   pub words : (j : ℕ) → word_in mid j ≡ word_in s j
   pub rest : KeepsRest s mid
 
-module _ (script : Script) (s : Win32State) (h : IsWellFormed script s) (w k i old new : ℕ) (r : Reply) (mid : Win32State)
+module _ (script : Script) (s : Win32State) (h : IsWellFormed script s) (w k i old new : ℕ) (r : Reply)
+    (mid : Win32State)
   where
     abbrev Result : Type 0
     Result = FindsOther s old r mid ⊎ Exchanges s i old new r mid
 
     -- the words are as before
-    lost : (words : List ℕ) → words_by s w k ≡ Some words → (r ≡ reply.Word old → ⊥) → mid ≡ with_words s w k words → Result
+    lost : (words : List ℕ) → words_by s w k ≡ Some words → (r ≡ reply.Word old → ⊥) → mid ≡ with_words s w k words
+        → Result
     lost words named other e = inl (subst (λ m. FindsOther s old r m) (sym e) (record {
       other = other;
       words = λ j. word-after script s h w k words words named j ∙ sym (word-before script s h w k words words named j);

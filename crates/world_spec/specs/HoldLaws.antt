@@ -1,5 +1,5 @@
--- A claimed row that becomes held: rows and images go on to show the POSIX state, since neither a free nor a held row is a
--- process.
+-- A claimed row that becomes held: rows and images go on to show the POSIX state, since neither a free nor a held row
+-- is a process.
 use Rattle.std.proofs.Common.{◌≡◌, ℕ, ◌+◌, false, Option, Some, None, MatchOption, refl, sym, ap, ◌∙◌}
 use Rattle.std.proofs.Common.{subst}
 use Rattle.script_spec.specs.declared.script.Script.{Script}

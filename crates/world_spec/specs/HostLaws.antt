@@ -53,7 +53,7 @@ module _ {A : Type 0} (script : Script) (step : HistoryStep A) (registers : Have
   host_lives = seen.shows.facts.host hosted.lives
 
   -- what a low handle of the host named is still there, changed as an object may be
-  still_named : (k : ℕ) (x : Object) → k ≤ 8 → object_by step.before.win32 1 k ≡ Some x
+  pub still_named : (k : ℕ) (x : Object) → k ≤ 8 → object_by step.before.win32 1 k ≡ Some x
       → (y : Object) × (object_by step.after.win32 1 k ≡ Some y)
       × ObjectAfter step.before.win32 step.entry.directive step.entry.call x y
   still_named k x few e =

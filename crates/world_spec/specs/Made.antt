@@ -1,5 +1,5 @@
--- What the entries so far tell of processes that were made, of rows that were claimed and of handles that were answered.
--- It speaks of turns, calls and replies alone, so it outlasts every later entry.
+-- What the entries so far tell of processes that were made, of rows that were claimed and of handles that were
+-- answered. It speaks of turns, calls and replies alone, so it outlasts every later entry.
 use Rattle.std.specs.Prelude.{◌≡◌, ℕ, ◌+◌, ◌≤◌, Bool, true, false, ◌&&◌, ◌||◌, nat_eq, if◌then◌else◌, List, [], ◌∷◌}
 use Rattle.std.specs.Prelude.{Some}
 use Rattle.w32_base.specs.declared.call.Call.TheVariants as call
@@ -29,8 +29,8 @@ pub record Makes {A : Type 0} (w v : ℕ) (x : Seen A) : Type 0 where
 abbrev pub IsMaker : {A : Type 0} → List (Seen A) → (w v : ℕ) → Type 0
 IsMaker past w v = SomeSeen (Makes w v) past
 
--- The entry is an `add` to word 0 in a turn of the main thread of process w, which found one less than this row: the row
--- is claimed by it.
+-- The entry is an `add` to word 0 in a turn of the main thread of process w, which found one less than this row: the
+-- row is claimed by it.
 pub record Claims {A : Type 0} (row w : ℕ) (x : Seen A) : Type 0 where
   pub turn : is_thread_turn x.before.win32 x.entry.directive w 0 ≡ true
   pub handle : ℕ
@@ -76,3 +76,7 @@ pub record IsNamed (s : Win32State) (v : ℕ) : Type 0 where
   pub from : 1 ≤ row
   pub process : is_process_word (main_at s row) ≡ true
   pub image : main_image (main_at s row) ≡ v
+
+-- an entry before which a row named process v
+abbrev pub NamedThen : {A : Type 0} → ℕ → Seen A → Type 0
+NamedThen v x = IsNamed x.before.win32 v

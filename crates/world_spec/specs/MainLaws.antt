@@ -1,5 +1,5 @@
--- A step that changes one main word, and leaves the roster as it is: the facts of the words hold where the change is the
--- acting thread's to make.
+-- A step that changes one main word, and leaves the roster as it is: the facts of the words hold where the change is
+-- the acting thread's to make.
 use Rattle.std.proofs.Common.{◌≡◌, ◌≢◌, ◌⊎◌, inl, inr, ℕ, zero, suc, ◌≤◌, Bool, true, false, refl, sym, ap}
 use Rattle.std.proofs.Common.{◌∙◌, subst, arith}
 use Rattle.std.proofs.lemmas.Bool.{cases_eq}
@@ -18,8 +18,8 @@ use Rattle.world_spec.specs.Facts.{ChangesByTable, KeepsWords, Names, RowStays, 
 use Rattle.world_spec.specs.Made.{IsClaimedBy}
 
 -- The step changes the main word of a claimed row by an op that leaves the roster as it is. If the row is neither
--- published nor dropped, it is the acting main thread's that claimed it. If it is live, it names the same image after it;
--- or it became a zombie, in a turn of that image's main thread or once the image has ended.
+-- published nor dropped, it is the acting main thread's that claimed it. If it is live, it names the same image after
+-- it; or it became a zombie, in a turn of that image's main thread or once the image has ended.
 pub record MayChangeMain {A : Type 0} (step : HistoryStep A) (row : ℕ) (op : Op) : Type 0 where
   pub legal : is_op op ≡ true
   pub small : changes_roster op ≡ false

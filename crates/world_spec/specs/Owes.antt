@@ -26,8 +26,8 @@ use Rattle.world_spec.specs.SeenStep.{ShowsStep, IsSeenStep, IsBeside, turn_step
 module _ {P : Type 0} (posted_of : P → Call) (goes : P → Own → Setup → Reply → P → Own → After → Type 0)
     (script : Script) where
   -- After its call, whose process lives on, a part goes on with the reply over the bytes of its own process, gives this
-  -- event, and its thread posts its next call. Which call that is, isn't said: where the part is done, it is that of the
-  -- part that comes next.
+  -- event, and its thread posts its next call. Which call that is, isn't said: where the part is done, it is that of
+  -- the part that comes next.
   pub record LivesOn (mid : Win32State) (w t : ℕ) (part : P) (reply : Reply) (given : Option Event) (next : Option P)
       (new : Win32State) : Type 0 where
     pub part_after : P
@@ -55,9 +55,9 @@ module _ {P : Type 0} (posted_of : P → Call) (goes : P → Own → Setup → R
 
 module _ {A P : Type 0} (posted_of : P → Call) (goes : P → Own → Setup → Reply → P → Own → After → Type 0)
     (thread_of_part : P → ℕ) (clause : List (Seen A) → Moment A → ℕ → P → Type 0) (script : Script) where
-  -- What a turn of a part is to give, whatever the parts of the other threads are after it: the event of the entry, which
-  -- is the part's own but for the number in a `die` with `world`, the POSIX state after it, all that is to show of the
-  -- step, and its own clause after it.
+  -- What a turn of a part is to give, whatever the parts of the other threads are after it: the event of the entry,
+  -- which is the part's own but for the number in a `die` with `world`, the POSIX state after it, all that is to show
+  -- of the step, and its own clause after it.
   pub record KeepsTurn (past : List (Seen A)) (now : Moment A) (slot t w : ℕ) (called : Call) (reply : Reply)
       (given : Option Event) (next : Option P) (new : Win32State) : Type 0 where
     pub told : Option Event
@@ -86,11 +86,12 @@ module _ {A P : Type 0} (posted_of : P → Call) (goes : P → Own → Setup →
 module _ {A : Type 0} (posted_of : A → Call) (goes : A → Own → Setup → Reply → A → Own → After → Type 0)
     (opening : A → Type 0) (slot_of thread_of_part : A → ℕ)
     (clause : List (Seen A) → Moment A → ℕ → A → Type 0) (script : Script) where
-  -- What a part that serves a thread for its whole life owes beside it: its clause holds as it is opened, in the opening
-  -- moment and after the step that made its process.
+  -- What a part that serves a thread for its whole life owes beside it: its clause holds as it is opened, in the
+  -- opening moment and after the step that made its process.
   pub record OwesWorld : Type 0 where
     pub keeps : KeepsClause posted_of goes thread_of_part clause script
-    pub begins : (now : Moment A) → IsOpening script now.win32 → now.posix ≡ opening_of script → (slot t w : ℕ) (part : A)
+    pub begins : (now : Moment A) → IsOpening script now.win32 → now.posix ≡ opening_of script → (slot t w : ℕ)
+        (part : A)
         → number_in now.win32 slot ≡ Some w → IsOpened posted_of goes opening slot_of thread_of_part slot t part
         → clause [] now w part
     pub opens : (step : HistoryStep A) → IsSeenStep script step → (slot t w : ℕ) (part : A)

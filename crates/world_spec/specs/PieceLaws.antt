@@ -45,7 +45,8 @@ module _ {A W P : Type 0} (whole_posted : W → Call) (whole_goes : W → Own �
       (turn : OwnTurn whole_posted whole_goes script now.win32 slot t x called reply given next new)
       (stood : whole_clause past now turn.process.number x) where
     abbrev Result : Type 0
-    Result = KeepsTurn whole_posted whole_goes whole_thread whole_clause script past now slot t turn.process.number called
+    Result = KeepsTurn whole_posted whole_goes whole_thread whole_clause script past now slot t turn.process.number
+        called
         reply given next new
 
     -- the moment after the turn, and what is seen then
@@ -70,7 +71,8 @@ module _ {A W P : Type 0} (whole_posted : W → Call) (whole_goes : W → Own �
     lives : is_live (process_of turn.mid.processes turn.process.number) ≡ true
         → LivesOn whole_posted whole_goes script turn.mid turn.process.number t x reply given next new → Result
     lives live on =
-        let m = runs.goes_on (memory_by turn.mid turn.process.number) script.setup reply on.part_after on.own on.answer on.went
+        let m = runs.goes_on (memory_by turn.mid turn.process.number) script.setup reply on.part_after on.own on.answer
+        on.went
         in
         let piece : OwnTurn posted_of goes script now.win32 slot t p called reply given (Some m.0) new = record {
           process = turn.process;
@@ -91,7 +93,8 @@ module _ {A W P : Type 0} (whole_posted : W → Call) (whole_goes : W → Own �
             after = on.after;
           });
         } in
-        let kept = keeps.turns past now slot t p called reply given (Some m.0) new sound spare (sym runs.thread ∙ same) piece
+        let kept = keeps.turns past now slot t p called reply given (Some m.0) new sound spare
+        (sym runs.thread ∙ same) piece
         (runs.clause_of past now turn.process.number stood) in
         record {
           told = kept.told;

@@ -20,7 +20,8 @@ abbrev pub resting_posted : Resting → Call
 resting_posted p = if p.rests then call.WaitAny [] else opening_call
 
 -- it goes on to rest, leaves the bytes alone and gives no event
-pub record RestingGoes (p : Resting) (old : Own) (setup : Setup) (reply : Reply) (q : Resting) (new : Own) (answer : After)
+pub record RestingGoes (p : Resting) (old : Own) (setup : Setup) (reply : Reply) (q : Resting) (new : Own)
+    (answer : After)
     : Type 0 where
   pub part : q ≡ record p { rests = true }
   pub own : new ≡ old

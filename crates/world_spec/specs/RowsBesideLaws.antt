@@ -1,4 +1,5 @@
--- The rows, beside a thread: its own row, and the roster while it holds the mutex, outlast each step that isn't its turn.
+-- The rows, beside a thread: its own row, and the roster while it holds the mutex, outlast each step that isn't its
+-- turn.
 use Rattle.std.proofs.Common.{◌≡◌, inl, inr, ℕ, ◌≤◌, Bool, true, false, Some, refl, sym, ap, ◌∙◌, subst}
 use Rattle.script_spec.specs.declared.script.Script.{Script}
 use Rattle.win32_spec.specs.State.{Win32State}

@@ -74,7 +74,7 @@ terminal_at o low others (x ∷ xs) r never = elim (cases_eq x.number o) [
     by_object (TerminalObject t) never z = absurd (never t refl)
 
 -- the section that a handle names
-section_by : (s : Win32State) (w h : ℕ) (words : List ℕ) → words_by s w h ≡ Some words
+pub section_by : (s : Win32State) (w h : ℕ) (words : List ℕ) → words_by s w h ≡ Some words
     → object_of s.objects (object_number_by s w h) ≡ Some (Section words)
 section_by s w h words e = by_name (named_by s w h) refl e
   where
@@ -100,6 +100,10 @@ module _ (script : Script) (s : Win32State) (h : IsWellFormed script s) (w k : �
       let o = section_by s w k words named in
       section_at (object_number_by s w k) 0 words others s.objects h.formed.objects
       (λ a ws e. h.formed.only a (object_number_by s w k) (Section ws) (Section words) 0 e o refl refl) o
+
+  -- it is the section that the state's words are of
+  pub section-found : section_words s.objects ≡ Some words
+  section-found = at.0
 
   -- each word before the change and after it
   pub word-before : (i : ℕ) → word_in s i ≡ slice_index_or words i 0

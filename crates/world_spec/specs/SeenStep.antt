@@ -1,7 +1,8 @@
 -- What every thread sees of a step of the world, whoever it is by, and what is left to show of it beside the machine.
-use Rattle.std.specs.Prelude.{◌≡◌, ◌⊎◌, ℕ, List, Option, Some, None, MatchOption}
+use Rattle.std.specs.Prelude.{◌≡◌, ◌⊎◌, ℕ, ◌≤◌, ◌<◌, List, Option, Some, None, MatchOption}
 use Rattle.w32_base.specs.declared.call.Call.{Call}
 use Rattle.w32_base.specs.declared.call.Reply.{Reply}
+use Rattle.w32_base.specs.declared.entry.Directive.{Directive}
 use Rattle.w32_base.specs.declared.entry.Directive.TheVariants as directive
 use Rattle.w32_base.specs.declared.entry.Outcome.TheVariants as outcome
 use Rattle.w32_base.specs.declared.event.Event.{Event}
@@ -17,8 +18,8 @@ use Rattle.world_spec.specs.Facts.{KeepsFacts}
 use Rattle.world_spec.specs.Sound.{IsSoundMoment}
 
 -- What is to show of a step beside its Win32 step. Its event is a step of the POSIX machine, and without one that state
--- stays. The entry keeps the discipline and has its evidence. After it rows and images show the POSIX state. It keeps the
--- facts on which other threads rely.
+-- stays. The entry keeps the discipline and has its evidence. After it rows and images show the POSIX state. It keeps
+-- the facts on which other threads rely.
 pub record ShowsStep {A : Type 0} (script : Script) (step : HistoryStep A) : Type 0 where
   pub posix : MatchOption step.entry.event (step.after.posix ≡ step.before.posix)
       (λ told. PosixStep script step.before.posix told step.after.posix)
@@ -27,9 +28,16 @@ pub record ShowsStep {A : Type 0} (script : Script) (step : HistoryStep A) : Typ
   pub decodes : Decodes script step.after.win32 step.after.posix
   pub facts : KeepsFacts step
 
--- What every thread sees of a step: from a sound moment, the entry is a step of the Win32 machine, and all of the above.
--- The parts of other threads aren't in it.
+-- The directives that a world takes: an `end` is of a slot for layer processes, and a key is a byte, as in a script.
+abbrev pub IsTaken : Directive → Type 0
+IsTaken (directive.Turn slot t) = Unit {0}
+IsTaken (directive.End slot) = 1 ≤ slot
+IsTaken (directive.Key b) = b < 256
+
+-- What every thread sees of a step: from a sound moment, its directive is one that a world takes, the entry is a step
+-- of the Win32 machine, and all of the above. The parts of other threads aren't in it.
 pub record IsSeenStep {A : Type 0} (script : Script) (step : HistoryStep A) : Type 0 where
+  pub taken : IsTaken step.entry.directive
   pub before : IsSoundMoment script step.past step.before
   pub win32 : DirectiveStep script step.before.win32 step.entry step.after.win32
   pub shows : ShowsStep script step

@@ -1,18 +1,13 @@
 -- What holds for everybody at a moment holds after each step that keeps the facts.
 use Rattle.std.proofs.Common.{◌+◌, ◌-◌, MatchOption, subst}
-use Rattle.w32_base.specs.declared.call.Call.{Call}
-use Rattle.w32_base.specs.declared.entry.Outcome.{Outcome}
-use Rattle.win32_spec.specs.Ends.{with_end}
-use Rattle.win32_spec.specs.FormedLaws.{live_found, found_live}
 use Rattle.win32_spec.specs.LookupLaws.{same, or_left, or_right}
-use Rattle.win32_spec.specs.Run.{EndStep, StepBy, ended_from_outside}
 use Rattle.posix_spec.specs.Pending.{is_live}
+use Rattle.posix_spec.specs.Ranges.{HasRanges}
 use Rattle.posix_spec.specs.State as posix
 use Rattle.posix_spec.specs.State.{Life, Record, PosixState, record_of}
 use Rattle.layer_spec.specs.Decodes.{ShowsRecord, ShowsRow, life_by}
 use Rattle.layer_spec.specs.Discipline.{is_end}
 use Rattle.layer_spec.specs.Turns.{is_live_process, is_end_of, was_ended}
-use Rattle.world_spec.specs.EndLaws.{process-end_stays}
 use Rattle.std.proofs.Common.{◌≡◌, ◌≢◌, ◌⊎◌, inl, inr, ℕ, ◌<◌, ◌≤◌, Bool, true, false, Option, Some}
 use Rattle.std.proofs.Common.{None, nat_eq, refl, sym, ap, ◌∙◌, arith}
 use Rattle.std.proofs.lemmas.Bool.{cases_eq, eqb-true}
@@ -20,7 +15,7 @@ use Rattle.w32_base.specs.declared.entry.Directive.{Directive}
 use Rattle.w32_base.specs.declared.entry.Directive.TheVariants as directive
 use Rattle.script_spec.specs.declared.script.Script.{Script}
 use Rattle.win32_spec.specs.LookupLaws.{and_true}
-use Rattle.win32_spec.specs.Lookup.{process_in, process_of}
+use Rattle.win32_spec.specs.Lookup.{process_in}
 use Rattle.win32_spec.specs.MemoryEffects.{HaveRegisters}
 use Rattle.win32_spec.specs.State.{Process, Win32State}
 use Rattle.layer_spec.specs.Decoding.{main_image, main_of}
@@ -34,6 +29,12 @@ use Rattle.world_spec.specs.Made.{IsClaimedBy}
 use Rattle.world_spec.specs.Facts.{Names}
 use Rattle.world_spec.specs.Sound.{AreRowsSound, HaveOneRoster, IsSoundMoment}
 use Rattle.world_spec.specs.SeenStep.{IsSeenStep}
+use Rattle.world_spec.specs.CodeLaws.{end_ends}
+use Rattle.world_spec.specs.CodeLawsStep.{codes-step, first-step}
+use Rattle.world_spec.specs.FirstLawsRow.{next-after, made-after}
+use Rattle.world_spec.specs.KeyLaws.{keys-step}
+use Rattle.world_spec.specs.PosixLaws.{posix-formed}
+use Rattle.world_spec.specs.RosterMutexLaws.{mutex-step}
 use Rattle.world_spec.specs.HostLaws.{after_formed, hosted-step}
 
 -- a live row is a process
@@ -53,7 +54,8 @@ live_is_process w e = by_main (main_of w) e
     by_main (Some m) e = by_kind m.kind e
 
 -- a turn is that of one process
-one_turn : (s : Win32State) (d : Directive) (v w t u : ℕ) → is_thread_turn s d v t ≡ true → is_thread_turn s d w u ≡ true
+one_turn : (s : Win32State) (d : Directive) (v w t u : ℕ) → is_thread_turn s d v t ≡ true
+    → is_thread_turn s d w u ≡ true
     → v ≡ w
 one_turn s (directive.Turn slot x) v w t u e f =
     by_process (process_in s.processes slot)
@@ -67,7 +69,7 @@ one_turn s (directive.End slot) v w t u e f = absurd (let c : false ≡ true = e
 one_turn s (directive.Key b) v w t u e f = absurd (let c : false ≡ true = e in cc)
 
 -- a live row has a record that is alive
-live_record : (script : Script) (s : Win32State) (p : PosixState) (row : ℕ) → is_live_word (main_at s row) ≡ true
+pub live_record : (script : Script) (s : Win32State) (p : PosixState) (row : ℕ) → is_live_word (main_at s row) ≡ true
     → ShowsRow script (λ q. q.own) s p row
     → (r : Record) × (record_of p (row + 1) ≡ Some r) × (is_live r.life ≡ true)
 live_record script s p row live h = by_record (record_of p (row + 1)) refl h.shown
@@ -80,7 +82,8 @@ live_record script s p row live h = by_record (record_of p (row + 1)) refl h.sho
     by_life Free stop status life a e = absurd (let f : false ≡ true = a in cc)
     by_life Held stop status life a e = absurd (let f : false ≡ true = a in cc)
     by_life Running stop status life a e = let f : posix.Running ≡ life = cc in subst (λ x. is_live x ≡ true) f refl
-    by_life Stopped stop status life a e = let f : posix.Stopped stop ≡ life = cc in subst (λ x. is_live x ≡ true) f refl
+    by_life Stopped stop status life a e = let f : posix.Stopped stop ≡ life = cc in subst
+        (λ x. is_live x ≡ true) f refl
     by_life Zombie stop status life a e = absurd (let f : false ≡ true = a in cc)
     by_life Gone stop status life a e = absurd (let f : false ≡ true = a in cc)
 
@@ -98,29 +101,8 @@ live_record script s p row live h = by_record (record_of p (row + 1)) refl h.sho
     by_record None e m = absurd (of_kind h.main.kind is_main m)
     by_record (Some r) e m = (r, e, by_life h.main.kind h.main.stop h.main.status r.life is_main m.life)
 
--- an `end` ends one process, and its outcome tells which
-end_ends : (script : Script) (s : Win32State) (d : Directive) (called : Option Call) (came : Outcome) (new : Win32State)
-    (v : ℕ) → StepBy script s d called came new → is_end d ≡ true → is_live_process s v ≡ true
-    → is_live_process new v ≡ false → is_end_of came v ≡ true
-end_ends script s (directive.Turn slot t) called came new v step e alive dead = absurd (let f : false ≡ true = e in cc)
-end_ends script s (directive.Key b) called came new v step e alive dead = absurd (let f : false ≡ true = e in cc)
-end_ends script s (directive.End slot) called came new v step e alive dead =
-    by_answer (process_in s.processes slot) step.1
-  where
-    by_answer : (o : Option Process) → EndStep s o came new → is_end_of came v ≡ true
-    by_answer None m = absurd (let f : true ≡ false = sym alive ∙ (sym (ap (λ n. is_live_process n v) m.1) ∙ dead) in cc)
-    by_answer (Some p) m = elim (cases_eq v p.number) [
-      | inl n ↦ ap (λ o. is_end_of o v) m.0 ∙ same p.number v (sym n)
-      | inr d ↦ absurd (
-          let q = live_found (process_of s.processes v) alive in
-          let stays = process-end_stays s p.number ended_from_outside v q.0 q.1 q.2 d in
-          let lives : is_live_process new v ≡ true = ap (λ n. is_live_process n v) m.1
-          ∙ found_live (process_of (with_end s p.number ended_from_outside).processes v) q.0 stays q.2 in
-          let f : true ≡ false = sym lives ∙ dead in cc)
-    ]
-
 module _ {A : Type 0} (script : Script) (step : HistoryStep A) (registers : HaveRegisters script)
-    (seen : IsSeenStep script step) where
+    (ranges : HasRanges script) (seen : IsSeenStep script step) where
   abbrev rows : AreRowsSound step.past step.before.win32
   rows = seen.before.rows
 
@@ -161,6 +143,16 @@ module _ {A : Type 0} (script : Script) (step : HistoryStep A) (registers : Have
             | inl same ↦ inl (e, same)
             | inr differs ↦ inr (seen.shows.facts.words.names row from live (inr differs))
           ]
+
+  -- a live row that names the first process is row 1: no row comes to name it
+  first_row_after : (row : ℕ) → 1 ≤ row → is_live_word (main_at step.after.win32 row) ≡ true
+      → main_image (main_at step.after.win32 row) ≡ 2 → row ≡ 1
+  first_row_after row from live image = elim (comes_to row from live) [
+    | inl was ↦ seen.before.first_row.row row from was.0 (sym was.1 ∙ image)
+    | inr names ↦
+        let three = seen.before.first_row.made names.turn.maker (main_image (main_at step.after.win32 row))
+        names.turn.made in absurd (omega (arith, three, image))
+  ]
 
   -- a row that comes to name an image is the only live one that names it
   newly : (a b : ℕ) → 1 ≤ b → is_live_word (main_at step.after.win32 b) ≡ true
@@ -206,7 +198,8 @@ module _ {A : Type 0} (script : Script) (step : HistoryStep A) (registers : Have
           let lives = seen.shows.discipline.lives e (row + 1) r.0 r.1 r.2
           (subst (λ k. is_live_process step.before.win32 (main_image (main_at step.before.win32 k)) ≡ true) (sym same)
           alive) in
-          let after = subst (λ k. is_live_process step.after.win32 (main_image (main_at step.before.win32 k)) ≡ true) same
+          let after = subst (λ k. is_live_process step.after.win32 (main_image (main_at step.before.win32 k)) ≡ true)
+          same
           lives in
           absurd (let f : true ≡ false = sym after ∙ dead in cc)
 
@@ -262,4 +255,15 @@ module _ {A : Type 0} (script : Script) (step : HistoryStep A) (registers : Have
     decodes = seen.shows.decodes;
     rows = rows-step;
     roster = one_roster;
+    mutex = mutex-step script step registers seen;
+    keys = keys-step script step.before.win32 step.entry.directive step.entry.call step.entry.outcome step.after.win32
+        seen.taken seen.before.keys seen.win32;
+    codes = codes-step script step registers seen;
+    first = first-step script step registers seen;
+    first_row = record {
+      next = next-after script step registers seen;
+      made = made-after script step registers seen;
+      row = first_row_after;
+    };
+    posix = posix-formed script step ranges seen;
   }

@@ -6,6 +6,7 @@ use Rattle.std.proofs.lemmas.Bool.{cases_eq}
 use Rattle.w32_base.specs.Part.{KeepsImage}
 use Rattle.w32_base.specs.declared.call.Call.{Call}
 use Rattle.w32_base.specs.declared.call.Reply.{Reply}
+use Rattle.w32_base.specs.declared.entry.Directive.TheVariants as directive
 use Rattle.w32_base.specs.declared.event.Event.{Event}
 use Rattle.w32_base.specs.declared.own.Own.{Own}
 use Rattle.w32_base.specs.declared.part.After.{After}
@@ -24,8 +25,9 @@ use Rattle.world_spec.specs.SeenStep.{ShowsStep, turn_step}
 use Rattle.world_spec.specs.Sound.{IsSoundMoment}
 use Rattle.world_spec.specs.Owes.{LivesOn, OwnTurn}
 use Rattle.world_spec.specs.Calm.{IsCalm, is_plain_call}
-use Rattle.world_spec.specs.CalmLaws.{calm-shows}
-use Rattle.world_spec.specs.CalmSteps.{calm-then, calm-acts}
+use Rattle.world_spec.specs.CalmLaws.{steady-shows}
+use Rattle.world_spec.specs.CalmSteps.{calm-acts}
+use Rattle.world_spec.specs.Steady.{IsSteady, calm-steady, steady-then}
 
 -- whoever is alive after a call is alive after what the thread does then
 pub live-acts : (mid : Win32State) (w t : ℕ) (own : Own) (next : Call) (v : ℕ) → is_live_process mid v ≡ true
@@ -65,14 +67,39 @@ module _ {A P : Type 0} (posted_of : P → Call) (goes : P → Own → Setup →
       turn.posted.thread.process in
       found_live (process_of now.win32.processes turn.process.number) turn.process x.0 x.1
 
+  module _ (lives : (v : ℕ) → is_live_process now.win32 v ≡ true → is_live_process turn.mid v ≡ true) where
+    -- Where nobody ends, its process lives on.
+    pub goes-on : LivesOn posted_of goes script turn.mid turn.process.number t part reply given next new
+    goes-on =
+        by_bool (is_live (process_of turn.mid.processes turn.process.number)) (λ live m. m)
+        (λ dead m. absurd (let e : true ≡ false = sym (lives turn.process.number own_lives) ∙ dead in cc)) turn.goes_on
+
+    -- The same where the call makes a steady change.
+    pub steady-turn : IsSteady past now.win32 (directive.Turn slot t) turn.mid → is_plain_call called ≡ true
+        → ((q : P) (own : Own) (answer : After)
+        → goes part (memory_by turn.mid turn.process.number) script.setup reply q own answer
+        → KeepsShown (memory_by turn.mid turn.process.number) own)
+        → (parts : Parts A)
+        → ShowsStep script
+        (turn_step past now (record { win32 = new; parts = parts; posix = now.posix }) slot t called reply None)
+    steady-turn steady plain keeps parts =
+        let on = goes-on in
+        let kept = keeps on.part_after on.own on.answer on.went in
+        let acts = calm-acts turn.mid turn.process.number t on.own on.posts kept.image kept.cyg in
+        let still : (v : ℕ) → is_live_process now.win32 v ≡ true → is_live_process new v ≡ true =
+        λ v live. ap (λ n. is_live_process n v) on.after
+        ∙ live-acts turn.mid turn.process.number t on.own on.posts v (lives v live) in
+        steady-shows script
+        (turn_step past now (record { win32 = new; parts = parts; posix = now.posix }) slot t called reply None)
+        (steady-then past now.win32 (directive.Turn slot t) turn.mid new steady
+        (subst (IsCalm turn.mid) (sym on.after) acts)) refl refl plain
+        (λ no_end v live. still v live) (λ live. still 1 live) sound.decodes
+
   module _ (calm : IsCalm now.win32 turn.mid)
       (lives : (v : ℕ) → is_live_process now.win32 v ≡ true → is_live_process turn.mid v ≡ true)
       (plain : is_plain_call called ≡ true) where
-    -- So its process lives on.
     pub quiet-lives : LivesOn posted_of goes script turn.mid turn.process.number t part reply given next new
-    quiet-lives =
-        by_bool (is_live (process_of turn.mid.processes turn.process.number)) (λ live m. m)
-        (λ dead m. absurd (let e : true ≡ false = sym (lives turn.process.number own_lives) ∙ dead in cc)) turn.goes_on
+    quiet-lives = goes-on lives
 
     pub quiet-turn : ((q : P) (own : Own) (answer : After)
         → goes part (memory_by turn.mid turn.process.number) script.setup reply q own answer
@@ -80,14 +107,4 @@ module _ {A P : Type 0} (posted_of : P → Call) (goes : P → Own → Setup →
         → (parts : Parts A)
         → ShowsStep script
         (turn_step past now (record { win32 = new; parts = parts; posix = now.posix }) slot t called reply None)
-    quiet-turn keeps parts =
-        let on = quiet-lives in
-        let kept = keeps on.part_after on.own on.answer on.went in
-        let acts = calm-acts turn.mid turn.process.number t on.own on.posts kept.image kept.cyg in
-        let still : (v : ℕ) → is_live_process now.win32 v ≡ true → is_live_process new v ≡ true =
-        λ v live. ap (λ n. is_live_process n v) on.after
-        ∙ live-acts turn.mid turn.process.number t on.own on.posts v (lives v live) in
-        calm-shows script
-        (turn_step past now (record { win32 = new; parts = parts; posix = now.posix }) slot t called reply None)
-        (calm-then now.win32 turn.mid new calm (subst (IsCalm turn.mid) (sym on.after) acts)) refl refl plain
-        (λ no_end v live. still v live) (λ live. still 1 live) sound.decodes
+    quiet-turn = steady-turn lives (calm-steady past now.win32 (directive.Turn slot t) turn.mid calm) plain

@@ -1,9 +1,8 @@
 -- A world: a history up to this moment, in which each thread's part stands where its clause says.
-use Rattle.std.specs.Prelude.{◌≡◌, ℕ, ◌≤◌, List, ◌∷◌, Option, Some}
+use Rattle.std.specs.Prelude.{◌≡◌, ℕ, List, ◌∷◌, Option, Some}
 use Rattle.w32_base.specs.declared.call.Call.{Call}
 use Rattle.w32_base.specs.declared.call.Reply.{Reply}
 use Rattle.w32_base.specs.declared.entry.Directive.{Directive}
-use Rattle.w32_base.specs.declared.entry.Directive.TheVariants as directive
 use Rattle.w32_base.specs.declared.entry.Outcome.{Outcome}
 use Rattle.w32_base.specs.declared.event.Event.{Event}
 use Rattle.w32_base.specs.declared.own.Own.{Own}
@@ -20,8 +19,8 @@ use Rattle.world_spec.specs.Sound.{IsSoundMoment}
 module _ {A : Type 0} (posted_of : A → Call) (goes : A → Own → Setup → Reply → A → Own → After → Type 0)
     (opening : A → Type 0) (slot_of thread_of_part : A → ℕ)
     (clause : List (Seen A) → Moment A → ℕ → A → Type 0) where
-  -- What was seen is a history up to now, which is a sound moment. Each thread has posted the call of its part, and each
-  -- part stands where its clause says, of its own process.
+  -- What was seen is a history up to now, which is a sound moment. Each thread has posted the call of its part, and
+  -- each part stands where its clause says, of its own process.
   pub record IsWorld (script : Script) (past : List (Seen A)) (now : Moment A) : Type 0 where
     pub history : IsHistory posted_of goes opening slot_of thread_of_part script past now
     pub sound : IsSoundMoment script past now
@@ -29,8 +28,8 @@ module _ {A : Type 0} (posted_of : A → Call) (goes : A → Own → Setup → R
     pub stands : (slot t w : ℕ) (part : A) → number_in now.win32 slot ≡ Some w → part_at now.parts slot t ≡ Some part
         → clause past now w part
 
-  -- A directive led from this moment of a world to these states of the machine and of the parts: then there are an event
-  -- or none, which is the part's, and a POSIX state, with which the world goes on.
+  -- A directive led from this moment of a world to these states of the machine and of the parts: then there are an
+  -- event or none, which is the part's, and a POSIX state, with which the world goes on.
   pub record GoesOn (script : Script) (past : List (Seen A)) (now : Moment A) (d : Directive) (called : Option Call)
       (came : Outcome) (new : DrivenState A) : Type 0 where
     pub told : Option Event
@@ -41,9 +40,3 @@ module _ {A : Type 0} (posted_of : A → Call) (goes : A → Own → Setup → R
           before = now;
           entry = record { directive = d; call = called; outcome = came; event = told };
         } ∷ past) (record { win32 = new.win32; parts = new.parts; posix = posix })
-
--- The directives that a world takes: an `end` is of a slot for layer processes.
-abbrev pub IsTaken : Directive → Type 0
-IsTaken (directive.Turn slot t) = Unit {0}
-IsTaken (directive.End slot) = 1 ≤ slot
-IsTaken (directive.Key b) = Unit {0}

@@ -28,13 +28,15 @@ use Rattle.win32_spec.specs.WellFormed.{IsWellFormed}
 use Rattle.win32_spec.specs.FormedLaws.{live_found, found_live}
 use Rattle.win32_spec.specs.CallEffects.{by_bool}
 use Rattle.win32_spec.specs.MemoryEffects.{HaveRegisters}
+use Rattle.posix_spec.specs.Ranges.{HasRanges}
 use Rattle.posix_spec.specs.State.{PosixState}
 use Rattle.layer_spec.specs.History.{driven_at}
 use Rattle.layer_spec.specs.Moment.{Moment, Seen}
 use Rattle.layer_spec.specs.Turns.{is_live_process}
 use Rattle.world_spec.specs.Owes.{KeepsTurn, OwesWorld, OwnTurn}
 use Rattle.world_spec.specs.Sound.{HasSpare}
-use Rattle.world_spec.specs.World.{IsWorld, GoesOn, IsTaken}
+use Rattle.world_spec.specs.SeenStep.{IsTaken}
+use Rattle.world_spec.specs.World.{IsWorld, GoesOn}
 use Rattle.world_spec.specs.StepLaws.{match_true, match_false, stepped, formed, same_slot, stays_in}
 use Rattle.world_spec.specs.StepLaws.{slot_found, some_same, follows}
 use Rattle.world_spec.specs.StepLaws.{goes_on, its_thread}
@@ -49,7 +51,7 @@ module _ {A : Type 0} (posted_of : A → Call) (goes : A → Own → Setup → R
     (keeps_thread : (p q : A) (o n : Own) (s : Setup) (r : Reply) (a : After) → goes p o s r q n a
     → thread_of_part q ≡ thread_of_part p)
     (keeps_lengths : (p q : A) (o n : Own) (s : Setup) (r : Reply) (a : After) → goes p o s r q n a → KeepsLengths o n)
-    (script : Script) (registers : HaveRegisters script)
+    (script : Script) (registers : HaveRegisters script) (ranges : HasRanges script)
     (owes : OwesWorld posted_of goes opening slot_of thread_of_part clause script)
     (past : List (Seen A)) (now : Moment A)
     (world : IsWorld posted_of goes opening slot_of thread_of_part clause script past now) where
@@ -67,7 +69,8 @@ module _ {A : Type 0} (posted_of : A → Call) (goes : A → Own → Setup → R
   -- A turn of a thread that is ready.
   module _ (slot t : ℕ) (spare : HasSpare script past) (ready : is_ready now.win32 slot t ≡ true) (call : Call)
       (reply : Reply) (new : DrivenState A)
-      (of : DrivenTurn posted_of goes opening slot_of thread_of_part script now.win32 now.parts slot t call reply new.last
+      (of : DrivenTurn posted_of goes opening slot_of thread_of_part script now.win32 now.parts slot t call reply
+      new.last
       new.win32 new.parts) where
     abbrev w : ℕ
     w = of.process.number
@@ -100,12 +103,14 @@ module _ {A : Type 0} (posted_of : A → Call) (goes : A → Own → Setup → R
         new.win32) → turn.process.number ≡ w
         → KeepsTurn posted_of goes thread_of_part clause script past now slot t w call reply new.last next new.win32
     gives next turn same =
-        subst (λ k. KeepsTurn posted_of goes thread_of_part clause script past now slot t k call reply new.last next new.win32)
+        subst (λ k. KeepsTurn posted_of goes thread_of_part clause script past now slot t k call reply new.last next
+        new.win32)
         same
         (owes.keeps.turns past now slot t of.part call reply new.last next new.win32
         world.sound spare
         (its_thread posted_of goes opening slot_of thread_of_part clause begins keeps_slot keeps_thread keeps_lengths
-        script registers owes past now world (directive.Turn slot t) (Some call) (outcome.Step reply) new driven slot t
+        script registers ranges owes past now world (directive.Turn slot t) (Some call)
+        (outcome.Step reply) new driven slot t
         of.part of.before) turn
         (world.stands slot t turn.process.number of.part (number ∙ ap (λ k. Some k) (sym same)) of.before))
 
@@ -131,8 +136,9 @@ module _ {A : Type 0} (posted_of : A → Call) (goes : A → Own → Setup → R
     given_goes next kept here =
         let shows = kept.shows new.parts in
         goes_on posted_of goes opening slot_of thread_of_part clause begins keeps_slot keeps_thread keeps_lengths script
-        registers owes past now world (directive.Turn slot t) (Some call) (outcome.Step reply) new driven kept.told
-        kept.posix shows kept.given_is (λ a b v part e there. elim (cases_eq a slot) [
+        registers ranges owes past now world (directive.Turn slot t) (Some call)
+        (outcome.Step reply) new driven kept.told
+        kept.posix tt shows kept.given_is (λ a b v part e there. elim (cases_eq a slot) [
           | inl m ↦ elim (cases_eq b t) [
             | inl n ↦ at_place a b m n v part e there
             | inr n ↦ beside a b v part (inr n) e there
@@ -146,8 +152,9 @@ module _ {A : Type 0} (posted_of : A → Call) (goes : A → Own → Setup → R
             → StandsAfter kept.told kept.posix v part
         follow a b v part f e there apart =
             follows posted_of goes opening slot_of thread_of_part clause begins keeps_slot keeps_thread
-            keeps_lengths script registers owes past now world (directive.Turn slot t) (Some call) (outcome.Step reply)
-            new driven kept.told kept.posix (kept.shows new.parts) a b v part f e there (λ n. inl (apart n))
+            keeps_lengths script registers ranges owes past now world (directive.Turn slot t) (Some call)
+            (outcome.Step reply)
+            new driven kept.told kept.posix tt (kept.shows new.parts) a b v part f e there (λ n. inl (apart n))
 
         beside : (a b v : ℕ) (part : A) → (a ≢ slot) ⊎ (b ≢ t) → number_in new.win32 a ≡ Some v
             → part_at new.parts a b ≡ Some part → StandsAfter kept.told kept.posix v part
@@ -159,7 +166,8 @@ module _ {A : Type 0} (posted_of : A → Call) (goes : A → Own → Setup → R
         at_own : (v : ℕ) (part : A) → v ≡ w → next ≡ Some part → StandsAfter kept.told kept.posix v part
         at_own v part same is =
             subst (λ k. StandsAfter kept.told kept.posix k part) (sym same)
-            (subst (λ o. MatchOption o (Unit {0}) (λ x. StandsAfter kept.told kept.posix w x)) is (kept.stands new.parts))
+            (subst (λ o. MatchOption o (Unit {0}) (λ x. StandsAfter kept.told kept.posix w x)) is
+            (kept.stands new.parts))
 
         at_place : (a b : ℕ) → a ≡ slot → b ≡ t → (v : ℕ) (part : A) → number_in new.win32 a ≡ Some v
             → part_at new.parts a b ≡ Some part → StandsAfter kept.told kept.posix v part
@@ -191,11 +199,13 @@ module _ {A : Type 0} (posted_of : A → Call) (goes : A → Own → Setup → R
       where
         after_formed : IsWellFormed script new.win32
         after_formed = formed posted_of goes opening slot_of thread_of_part clause begins keeps_slot keeps_thread
-            keeps_lengths script registers owes past now world (directive.Turn slot t) (Some call) (outcome.Step reply)
+            keeps_lengths script registers ranges owes past now world (directive.Turn slot t) (Some call)
+            (outcome.Step reply)
             new driven
 
         lives : is_live (process_of of.mid.processes w) ≡ true
-            → (next : A) × PartGoes posted_of goes opening slot_of thread_of_part script of.mid w t of.part reply new.last
+            → (next : A) × PartGoes posted_of goes opening slot_of thread_of_part script of.mid w t of.part reply
+            new.last
             next new.win32 × (part_at new.parts slot t ≡ Some next)
             → Goes (directive.Turn slot t) (Some call) (outcome.Step reply) new
         lives live m =
@@ -223,7 +233,8 @@ module _ {A : Type 0} (posted_of : A → Call) (goes : A → Own → Setup → R
             stays_in script now.win32 (directive.Turn slot t) (Some call) (outcome.Step reply) new.win32 registers
             world.sound.formed after_formed
             (stepped posted_of goes opening slot_of thread_of_part clause begins keeps_slot keeps_thread
-            keeps_lengths script registers owes past now world (directive.Turn slot t) (Some call) (outcome.Step reply)
+            keeps_lengths script registers ranges owes past now world (directive.Turn slot t) (Some call)
+            (outcome.Step reply)
             new driven) slot w number (lives_after live m.1.own (posted_of m.0) m.1.after) in
             given_goes (Some m.0) (gives (Some m.0) turn refl)
             (λ v e part there. inl (some_same v w (sym e ∙ stays), sym m.2 ∙ there))
@@ -265,11 +276,12 @@ module _ {A : Type 0} (posted_of : A → Call) (goes : A → Own → Setup → R
       (λ ready of. subst (λ c. Goes (directive.Turn slot t) c came new) (sym of.2)
       (subst (λ o. Goes (directive.Turn slot t) (Some of.0) o new) (sym of.3)
       (ready_goes slot t spare ready of.0 of.1 new of.4)))
-      (λ waits rests. idle_goes posted_of goes opening slot_of thread_of_part clause begins keeps_slot keeps_thread keeps_lengths script
-      registers owes past now world slot t called came new driven rests.0 rests.1 rests.2 rests.3 rests.4) driven
+      (λ waits rests. idle_goes posted_of goes opening slot_of thread_of_part clause begins keeps_slot keeps_thread
+      keeps_lengths script
+      registers ranges owes past now world slot t called came new driven rests.0 rests.1 rests.2 rests.3 rests.4) driven
   world-goes (directive.End slot) called came new taken spare driven =
       end_goes posted_of goes opening slot_of thread_of_part clause begins keeps_slot keeps_thread keeps_lengths script
-      registers owes past now world slot called came new taken driven
+      registers ranges owes past now world slot called came new taken driven
   world-goes (directive.Key b) called came new taken spare driven =
       key_goes posted_of goes opening slot_of thread_of_part clause begins keeps_slot keeps_thread keeps_lengths script
-      registers owes past now world b called came new driven
+      registers ranges owes past now world b called came new taken driven

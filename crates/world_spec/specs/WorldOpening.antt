@@ -11,15 +11,19 @@ use Rattle.w32_base.specs.declared.setup.Setup.{Setup}
 use Rattle.script_spec.specs.declared.script.Script.{Script}
 use Rattle.script_spec.specs.Validity.{IsValid}
 use Rattle.tty_spec.specs.Terminal.{opening_terminal}
-use Rattle.win32_spec.specs.State.{Thread, Win32State}
+use Rattle.win32_spec.specs.Objects.{Free}
+use Rattle.win32_spec.specs.State.{Object, Mutex, Ended, Process, Thread, Win32State}
 use Rattle.win32_spec.specs.Driven.{part_at, IsDrivenOpening, OpensPart, IsOpened}
-use Rattle.win32_spec.specs.Lookup.{number_in, thread_at}
+use Rattle.win32_spec.specs.Lookup.{is_alive, number_in, process_of, thread_at, object_of, object_number}
 use Rattle.win32_spec.specs.LookupLaws.{same, differs, same_some}
 use Rattle.win32_spec.specs.Making.{opening_call}
 use Rattle.win32_spec.specs.Opening.{opening_host, opening_process, OpeningNumbers, IsOpening, opening, opening_words}
 use Rattle.win32_spec.specs.OpeningLaws.{wellformed-opening}
 use Rattle.win32_spec.specs.ServedOpening.{served-opening}
 use Rattle.posix_spec.specs.Opening.{opening_of}
+use Rattle.posix_spec.specs.OpeningLaws.{IsWellFormed-opening_of}
+use Rattle.posix_spec.specs.ValidLaws.{HasRanges-valid}
+use Rattle.posix_spec.specs.WellFormed.{IsWellFormed as IsPosixFormed}
 use Rattle.layer_spec.specs.Decodes.{Decodes}
 use Rattle.layer_spec.specs.History.{driven_at}
 use Rattle.layer_spec.specs.Moment.{Moment, Seen}
@@ -31,12 +35,12 @@ use Rattle.layer_spec.specs.Decoding.{main_image}
 use Rattle.std.specs.Prelude.{◌*◌, ◌+◌, ◌^◌}
 use Rattle.roster.specs.Words.{is_live_word}
 use Rattle.world_spec.specs.Owes.{OwesWorld}
-use Rattle.world_spec.specs.Sound.{IsHosted, IsBlankRow, AreRowsSound, HaveOneRoster}
+use Rattle.world_spec.specs.Sound.{AreByteKeys, IsHosted, IsBlankRow, AreRowsSound, HaveOneRoster, IsRosterMutex}
 use Rattle.world_spec.specs.StepLaws.{some_same}
 use Rattle.roster.specs.Turns.{roster_handle}
 use Rattle.layer_spec.specs.Turns.{is_live_process}
 use Rattle.win32_spec.specs.Handles.{handle_of}
-use Rattle.win32_spec.specs.Named.{handles_of, named_by}
+use Rattle.win32_spec.specs.Named.{handles_of, named_by, object_at, object_by}
 use Rattle.world_spec.specs.World.{IsWorld}
 
 -- the opening state has its host
@@ -107,7 +111,8 @@ rows-opening script s h = subst (AreRowsSound []) (sym h.state) (record {
         subst (λ k. is_live_process (opening h.numbers h.program h.placed) k ≡ false) image dead in
         let g : true ≡ false = f in cc
 
-    only_first : (row : ℕ) → 1 ≤ row → is_live_word (main_at (opening h.numbers h.program h.placed) row) ≡ true → row ≡ 1
+    only_first : (row : ℕ) → 1 ≤ row → is_live_word (main_at (opening h.numbers h.program h.placed) row) ≡ true
+        → row ≡ 1
     only_first row from live = elim (cases_eq row 1) [
       | inl e ↦ e
       | inr d ↦
@@ -133,6 +138,64 @@ roster-opening script s h = subst HaveOneRoster (sym h.state) (λ v w m n live_v
         by_tests false true e = some_same h.numbers.mutex m e
         by_tests false false e = absurd (cc)
 
+-- which is a mutex
+pub mutex-opening : (script : Script) (s : Win32State) → IsOpening script s → IsRosterMutex s
+mutex-opening script s h = subst IsRosterMutex (sym h.state) (λ v live x is. (Free, sym (only v x is)))
+  where
+    first : Win32State
+    first = opening h.numbers h.program h.placed
+
+    listed : object_of first.objects (object_number h.numbers.mutex) ≡ Some (Mutex Free)
+    listed = rw (
+      h.numbers.mutex_even,
+      differs h.numbers.section h.numbers.mutex (λ e. omega (arith, h.numbers.mutex_above, e)),
+      same h.numbers.mutex h.numbers.mutex refl,
+    ) refl
+
+    only : (v : ℕ) (x : Object) → object_by first v roster_handle ≡ Some x → Mutex Free ≡ x
+    only v x is = by_tests (nat_eq 1 v) (nat_eq 2 v) is
+      where
+        by_tests : (a b : Bool)
+            → object_at first (handle_of (handles_of (if a then Some (opening_host h.numbers)
+            else if b then Some (opening_process h.numbers h.program h.placed) else None)) roster_handle) ≡ Some x
+            → Mutex Free ≡ x
+        by_tests true b e = some_same (Mutex Free) x (sym listed ∙ e)
+        by_tests false true e = some_same (Mutex Free) x (sym listed ∙ e)
+        by_tests false false e = absurd (cc)
+
+-- a live row is row 1
+first-row : (script : Script) (s : Win32State) → IsOpening script s → (row : ℕ) → 1 ≤ row
+    → is_live_word (main_at s row) ≡ true → row ≡ 1
+first-row script s h row from live =
+    let rows : AreRowsSound {A = ℕ} [] s = rows-opening script s h in
+    elim (cases_eq row 1) [
+      | inl e ↦ e
+      | inr d ↦
+          let b = rows.blank row (omega (arith, from, d, rows.few)) in
+          absurd (let e : false ≡ true = sym (ap is_live_word b.main) ∙ live in cc)
+    ]
+
+-- both processes are alive: nobody has ended
+opening-alive : (script : Script) (s : Win32State) → IsOpening script s → (v code : ℕ) (q : Process)
+    → process_of s.processes v ≡ Some q → q.life ≡ Ended code → ⊥
+opening-alive script s h v code q found life =
+    by_tests (nat_eq 1 v) (nat_eq 2 v) (subst (λ (n : Win32State). process_of n.processes v ≡ Some q) h.state found)
+  where
+    by_process : (p : Process) → is_alive p.life ≡ true → Some p ≡ Some q → ⊥
+    by_process p alive f =
+        let g : true ≡ false =
+        sym alive ∙ (ap (λ (x : Process). is_alive x.life) (some_same p q f) ∙ ap is_alive life) in cc
+
+    by_tests : (a b : Bool) → (if a then Some (opening_host h.numbers)
+        else if b then Some (opening_process h.numbers h.program h.placed) else None) ≡ Some q → ⊥
+    by_tests true b e = by_process (opening_host h.numbers) refl e
+    by_tests false true e = by_process (opening_process h.numbers h.program h.placed) refl e
+    by_tests false false e = let f : None ≡ Some q = e in cc
+
+-- and no key is in the queue
+keys-opening : (script : Script) (s : Win32State) → IsOpening script s → AreByteKeys s.keys
+keys-opening script s h = subst (λ (n : Win32State). AreByteKeys n.keys) (sym h.state) tt
+
 module _ {A : Type 0} (posted_of : A → Call) (goes : A → Own → Setup → Reply → A → Own → After → Type 0)
     (opening_part : A → Type 0) (slot_of thread_of_part : A → ℕ)
     (clause : List (Seen A) → Moment A → ℕ → A → Type 0)
@@ -147,11 +210,26 @@ module _ {A : Type 0} (posted_of : A → Call) (goes : A → Own → Setup → R
     sound = record {
       formed = wellformed-opening script now.win32 valid.few_modules driven.opens;
       hosted = hosted-opening script now.win32 driven.opens;
-      decodes = subst (λ p. Decodes script now.win32 p) (sym opened) (decodes_at_opening script now.win32 valid driven.opens);
+      decodes = subst (λ p. Decodes script now.win32 p) (sym opened)
+          (decodes_at_opening script now.win32 valid driven.opens);
       rows = rows-opening script now.win32 driven.opens;
       roster = roster-opening script now.win32 driven.opens;
+      mutex = mutex-opening script now.win32 driven.opens;
+      keys = keys-opening script now.win32 driven.opens;
+      codes = record {
+        ended = λ v is. absurd (let e : false ≡ true = is in cc);
+        codes = λ v code q found life. absurd (opening-alive script now.win32 driven.opens v code q found life);
+      };
+      first = λ code q found life. absurd (opening-alive script now.win32 driven.opens 2 code q found life);
+      first_row = record {
+        next = omega (arith, ap (λ (s : Win32State). s.next) driven.opens.state);
+        made = λ w v makes. absurd makes;
+        row = λ row from live image. first-row script now.win32 driven.opens row from live;
+      };
+      posix = subst (IsPosixFormed script) (sym opened) (IsWellFormed-opening_of script (HasRanges-valid script valid));
     };
-    served = served-opening posted_of goes opening_part slot_of thread_of_part begins script (driven_at now None) driven;
+    served = served-opening posted_of goes opening_part slot_of thread_of_part begins script
+        (driven_at now None) driven;
     stands = stands;
   }
     where
