@@ -11,7 +11,8 @@ use Rattle.child_watch.specs.declared.collect.Gather.{Gather}
 use Rattle.child_watch.specs.declared.collect.Gather.TheVariants as gather
 use Rattle.roster.specs.Turns.{Turn, quietly, Lowers, all_by_word}
 use Rattle.roster.specs.Words.{changed_word}
-use Rattle.child_watch.specs.Collect.{gather_posted, gather_tries, gather_looked, gather_tried, gather_after, gather_rank}
+use Rattle.child_watch.specs.Collect.{gather_posted, gather_tries, gather_looked, gather_tried, gather_after}
+use Rattle.child_watch.specs.Collect.{gather_rank}
 
 tries_rank : (row old : ℕ) (o : Option ℕ) → gather_rank (gather_tries row old o) < 3
 tries_rank row old (Some new) = omega arith

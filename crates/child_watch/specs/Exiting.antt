@@ -1,6 +1,6 @@
--- The end of a process: its exit word says how, and its main word becomes a zombie's, with the event `die`. Then, by the
--- holder of the roster mutex: each child in its list that is a zombie is collected, and so is the process itself where
--- it has no live parent. Last its Win32 process ends.
+-- The end of a process: its exit word says how, and its main word becomes a zombie's, with the event `die`. Then, by
+-- the holder of the roster mutex: each child in its list that is a zombie is collected, and so is the process itself
+-- where it has no live parent. Last its Win32 process ends.
 use Rattle.std.specs.Prelude.{ℕ, ◌+◌, ◌-◌, ◌*◌, pos, Bool, ◌&&◌, nat_eq, nat_lt, if◌then◌else◌, List, length, Option}
 use Rattle.std.specs.Prelude.{Some, None}
 use Rattle.w32_base.specs.declared.call.Call.{Call}

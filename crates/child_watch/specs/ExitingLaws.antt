@@ -1,6 +1,6 @@
 -- The end of a process comes to its last step.
 use Rattle.std.specs.Prelude.{◌≡◌, ℕ, ◌+◌, ◌-◌, ◌*◌, ◌<◌, ◌≤◌, pos, Bool, true, false, ◌&&◌, not, nat_eq, nat_lt}
-use Rattle.std.specs.Prelude.{List, length, Option, Some, None}
+use Rattle.std.specs.Prelude.{length, Option, Some, None}
 use Rattle.std.proofs.Common.{refl, sym, ap, ◌∙◌, arith}
 use Rattle.std.proofs.lemmas.Bool.{cond_both, ltb-true}
 use Rattle.w32_base.specs.declared.call.Reply.{Reply}
@@ -20,7 +20,7 @@ use Rattle.roster.specs.declared.release.Let.TheVariants as release
 use Rattle.roster.specs.Turns.{Turn, quietly, Lowers, all_by_word}
 use Rattle.roster.specs.Words.{is_live_word, changed_word}
 use Rattle.roster.specs.Orphaned.{is_process_number}
-use Rattle.roster.specs.Mutex.{hold_posted, hold_after, hold_rank, let_after, let_rank}
+use Rattle.roster.specs.Mutex.{hold_posted, let_after, let_rank}
 use Rattle.roster.specs.MutexLaws.{let_lowers}
 use Rattle.child_watch.specs.declared.collect.Gather.{Gather}
 use Rattle.child_watch.specs.declared.collect.Gather.TheVariants as gather
@@ -31,8 +31,8 @@ use Rattle.child_watch.specs.declared.exiting.Exiting.{Exiting}
 use Rattle.child_watch.specs.Collect.{gather_after, gather_rank}
 use Rattle.child_watch.specs.CollectLaws.{gather_lowers}
 use Rattle.child_watch.specs.Ending.{status_of, death_of}
-use Rattle.child_watch.specs.Exiting.{exit_step_posted, exit_posted, is_listed, row_if, listed_child, exit_marked}
-use Rattle.child_watch.specs.Exiting.{exit_seals, exit_looked, exit_sealed, exit_child, exit_children, exit_holds}
+use Rattle.child_watch.specs.Exiting.{exit_step_posted, exit_posted, is_listed, row_if, exit_marked}
+use Rattle.child_watch.specs.Exiting.{exit_seals, exit_looked, exit_sealed, exit_child, exit_children}
 use Rattle.child_watch.specs.Exiting.{exit_gathers, exit_grouped, exit_parent, exit_itself, exit_lets}
 use Rattle.child_watch.specs.Exiting.{exit_step_after}
 use Rattle.child_watch.specs.Exiting.{exit_after, exit_step_rank, exit_rank}

@@ -40,9 +40,9 @@ pub enum ExitStep {
     Rest,
 }
 
-/// The end of a process (POSIX.1-2017, XSH _Exit): its exit word says how, and its main word becomes a zombie's, with the
-/// event `die`. Then it collects its children that are zombies, and itself where it has no live parent, and ends its
-/// Win32 process with the status as the code. It is never done.
+/// The end of a process (POSIX.1-2017, XSH _Exit): its exit word says how, and its main word becomes a zombie's, with
+/// the event `die`. Then it collects its children that are zombies, and itself where it has no live parent, and ends
+/// its Win32 process with the status as the code. It is never done.
 #[derive(Clone, Copy, Debug, PartialEq, Eq)]
 pub struct Exiting {
     /// The row of the process.

@@ -1,7 +1,7 @@
--- kill with one process as its target (POSIX.1-2017, XSH kill). With signal 0 the target's main word is looked at, which
--- answers. Else the signal is posted (`Post` of `roster`, whose steps are this part's), and the call is answered in the
--- turn in which the signal is posted, or in which the main word shows a zombie or no process. The waking and what
--- follows come after the answer.
+-- kill with one process as its target (POSIX.1-2017, XSH kill). With signal 0 the target's main word is looked at,
+-- which answers. Else the signal is posted (`Post` of `roster`, whose steps are this part's), and the call is
+-- answered in the turn in which the signal is posted, or in which the main word shows a zombie or no process. The
+-- waking and what follows come after the answer.
 use Rattle.std.specs.Prelude.{ℕ, ◌+◌, pos, if◌then◌else◌, Option, Some, None}
 use Rattle.w32_base.specs.declared.call.Call.{Call}
 use Rattle.w32_base.specs.declared.call.Call.TheVariants as call

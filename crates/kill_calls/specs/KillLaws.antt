@@ -62,8 +62,8 @@ ends_rank behind (post.Finished answer) = omega arith
 ends_rank behind (post.Posting x) = omega arith
 ends_rank behind (post.Telling x) = omega arith
 
--- Each turn of a step lowers the rank, unless a compare-exchange found another word, and keeps the length of each region,
--- also where so many turns follow the kill.
+-- Each turn of a step lowers the rank, unless a compare-exchange found another word, and keeps the length of each
+-- region, also where so many turns follow the kill.
 pub kill_step_fair : (behind : ℕ) (p : KillOne) (s : KillStep) (r : Reply) (own : Own)
     → FairStep behind p s r own (kill_step_after p s own r)
 kill_step_fair behind p kill.Checking r own =

@@ -24,9 +24,9 @@ pub enum KillStep {
     Rest,
 }
 
-/// A program's kill of one process (POSIX.1-2017, XSH kill). It is answered in the turn in which the signal is posted, or
-/// in which the target's main word shows a zombie, which gets nothing, or no process. For a check only, the target's main
-/// word alone is looked at.
+/// A program's kill of one process (POSIX.1-2017, XSH kill). It is answered in the turn in which the signal is posted,
+/// or in which the target's main word shows a zombie, which gets nothing, or no process. For a check only, the
+/// target's main word alone is looked at.
 #[derive(Clone, Copy, Debug, PartialEq, Eq)]
 pub struct KillOne {
     /// The process that calls.

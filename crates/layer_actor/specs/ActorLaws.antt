@@ -7,7 +7,7 @@ use Rattle.w32_base.specs.declared.call.Reply.{Reply}
 use Rattle.w32_base.specs.declared.own.Own.{Own}
 use Rattle.w32_base.specs.declared.part.After.{After}
 use Rattle.w32_base.specs.declared.setup.Setup.{Setup}
-use Rattle.w32_base.specs.Part.{may_keep_rank, KeepsImage, with_image}
+use Rattle.w32_base.specs.Part.{may_keep_rank, KeepsImage, with_image_of}
 use Rattle.layer_turns.specs.OwnTurns.{WentOn, IsFair}
 use Rattle.layer_turns.specs.OwnTurnsLaws.{same_lengths}
 use Rattle.job_control.specs.declared.starter.Starter.{Starter}
@@ -121,11 +121,11 @@ event_ignores s (serves.Starter x) o other_own r other = refl
 event_ignores s (serves.Other thread x) o other_own r other = refl
 
 pub image_is_ignored : (p q : Actor) (o n x : Own) (s : Setup) (r : Reply) (a : After) → thread_of p.serves ≢ 0
-    → WentOn (actor_after s p o r) q n a → WentOn (actor_after s p (with_image o x) r) q (with_image n x) a
+    → WentOn (actor_after s p o r) q n a → WentOn (actor_after s p (with_image_of o x) r) q (with_image_of n x) a
 image_is_ignored p q o n x s r a other went =
     record {
-      part = went.part ∙ ap (λ y. record p { serves = y }) (part_ignores s p.serves o (with_image o x) r other);
-      own = ap (λ y. with_image y x) (went.own ∙ own_stays s p.serves o r other)
-          ∙ sym (own_stays s p.serves (with_image o x) r other);
-      event = went.event ∙ event_ignores s p.serves o (with_image o x) r other;
+      part = went.part ∙ ap (λ y. record p { serves = y }) (part_ignores s p.serves o (with_image_of o x) r other);
+      own = ap (λ y. with_image_of y x) (went.own ∙ own_stays s p.serves o r other)
+          ∙ sym (own_stays s p.serves (with_image_of o x) r other);
+      event = went.event ∙ event_ignores s p.serves o (with_image_of o x) r other;
     }

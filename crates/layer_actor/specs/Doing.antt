@@ -1,6 +1,6 @@
--- What the main thread of a layer process does, as the sum of its parts: the start of its image, then for ever a look at
--- its main word and what is next in its program: a block of local instructions, a call, or the end after an image fault.
--- Each part's steps stand here by its own tables.
+-- What the main thread of a layer process does, as the sum of its parts: the start of its image, then for ever a look
+-- at its main word and what is next in its program: a block of local instructions, a call, or the end after an image
+-- fault. Each part's steps stand here by its own tables.
 use Rattle.std.specs.Prelude.{ℕ, ◌+◌, ℤ, pos, Bool, ◌&&◌, false, nat_eq, if◌then◌else◌, List, length, slice_get, Option}
 use Rattle.std.specs.Prelude.{Some, None, is_none}
 use Rattle.w32_base.specs.declared.call.Call.{Call}

@@ -60,7 +60,8 @@ impl Gets {
     ghost use Rattle.layer_spec.specs.Decoding.{group_of};
     ghost use Rattle.layer_turns.specs.OwnTurns.{OwnTurn};
     ghost use Rattle.layer_actor.specs.declared.gets.GetStep.TheVariants.{Grouping};
-    ghost use Rattle.layer_actor.specs.Gets.{get_answers, get_parent, get_grouped, get_looked, get_step_after, get_after};
+    ghost use Rattle.layer_actor.specs.Gets.{get_answers, get_parent, get_grouped, get_looked, get_step_after};
+    ghost use Rattle.layer_actor.specs.Gets.{get_after};
     ghost use Rattle.layer_actor.specs.Gets.{get_posted, get_rank};
 
     /// At its start, of the process with a row.

@@ -1,8 +1,9 @@
-//! The parts of the layer's threads: each thread has one for its whole life, which is the sum of what it may do. No call
-//! takes memory.
+//! The parts of the layer's threads: each thread has one for its whole life, which is the sum of what it may do. No
+//! call takes memory.
 #![tactic(auto)]
 
 mod actor;
+mod built_words;
 mod doing;
 mod gets;
 mod identity;
@@ -14,6 +15,7 @@ mod start;
 mod tests;
 
 pub use actor::{Actor, MainThread, Serves};
+pub use built_words::built;
 pub use doing::Doing;
 pub use gets::{Asked, GetStep, Gets};
 pub use identity::Identity;

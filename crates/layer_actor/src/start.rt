@@ -34,8 +34,8 @@ pub enum StartStep {
     Rest,
 }
 
-/// The start of an image: it makes the objects that every layer process has, and lets its other threads go. Built for the
-/// first process, whose start record is all zeros.
+/// The start of an image: it makes the objects that every layer process has, and lets its other threads go. Built for
+/// the first process, whose start record is all zeros.
 #[derive(Clone, Copy, Debug, PartialEq, Eq)]
 pub struct Start {
     /// The image.
