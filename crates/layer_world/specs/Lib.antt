@@ -1,0 +1,12 @@
+pub mod Queue
+pub mod Growth
+pub mod Recorded
+pub mod World
+pub mod Kept
+pub mod WorldLaws
+pub mod Scheduled
+pub mod ScheduledLaws
+pub mod LineLaws
+pub mod NextLine
+pub mod KeptLaws
+pub mod RowWords
