@@ -1,5 +1,5 @@
-//! The program: it reads a script on standard input and writes its log on standard output, or says whether a log is that
-//! of a run, or makes a script.
+//! The program: it reads a script on standard input and writes its log on standard output, or says whether a log is
+//! that of a run, or makes a script.
 #![tactic(auto)]
 
 use clap::{Arg, ArgAction, Command};

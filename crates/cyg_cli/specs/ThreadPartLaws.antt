@@ -10,7 +10,7 @@ use Rattle.w32_base.specs.declared.call.Reply.TheVariants as reply
 use Rattle.w32_base.specs.declared.own.Own.{Own}
 use Rattle.w32_base.specs.declared.setup.Setup.{Setup}
 use Rattle.w32_base.specs.declared.part.After.{After}
-use Rattle.w32_base.specs.Part.{may_keep_rank, is_progress, is_wait, is_lost_exchange, KeepsLengths, KeepsImage, with_image as with_image_of}
+use Rattle.w32_base.specs.Part.{may_keep_rank, is_progress, is_wait, is_lost_exchange, KeepsLengths, KeepsImage, with_image_of}
 use Rattle.w32_base.specs.declared.event.Event.{Event}
 use Rattle.vm_spec.specs.Image.{image_of, with_image, with_result, with_word, moved_on, place_of}
 use Rattle.w32_base.specs.declared.instr.Instr.{Instr}

@@ -1,5 +1,6 @@
 -- Changed fields keep their ranges.
-use Rattle.std.specs.Prelude.{◌≡◌, ℕ, zero, suc, ◌+◌, ◌-◌, ◌≤◌, ◌<◌, Bool, true, false, ◌&&◌, nat_le, List, [], ◌∷◌, ◌++◌, length}
+use Rattle.std.specs.Prelude.{◌≡◌, ℕ, zero, suc, ◌+◌, ◌-◌, ◌≤◌, ◌<◌, Bool, true, false, ◌&&◌, nat_le, List, [], ◌∷◌}
+use Rattle.std.specs.Prelude.{◌++◌, length}
 use Rattle.std.specs.Prelude.{Option, replicate, take, drop}
 use Rattle.std.specs.List.{list_all, remove}
 use Rattle.std.proofs.Common.{refl, sym, ◌∙◌, ap, subst, arith, set, get_or, length-append, length-set}
@@ -8,7 +9,8 @@ use Rattle.std.proofs.lemmas.List.{length-map}
 use Rattle.std.proofs.lemmas.List.Folds.{list_all-append}
 use Rattle.std.proofs.lemmas.List.Edits.{length-remove}
 use Rattle.w32_base.specs.declared.instr.Action.{Action}
-use Rattle.layer_spec.specs.Heap.{HeapChild, HeapFields, IsHeap, is_mask, is_saved_mask, is_action, are_actions, is_base}
+use Rattle.layer_spec.specs.Heap.{HeapChild, HeapFields, IsHeap, is_mask, is_saved_mask, is_action, are_actions}
+use Rattle.layer_spec.specs.Heap.{is_base}
 use Rattle.layer_spec.specs.Heap.{is_child, without_handler}
 use Rattle.layer_spec.specs.HeapInverse.{for_exec_legal}
 use Rattle.cygheap_image.specs.Changes.{with_mask, with_saved, with_owed, with_action, with_base, with_child}

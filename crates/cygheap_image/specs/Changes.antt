@@ -1,5 +1,6 @@
 -- A cygheap's fields with one of them changed.
-use Rattle.std.specs.Prelude.{ℕ, ◌-◌, Bool, false, List, [], ◌∷◌, ◌++◌, map, replicate, slice_set, slice_index_or, Option}
+use Rattle.std.specs.Prelude.{ℕ, ◌-◌, Bool, false, List, [], ◌∷◌, ◌++◌, map, replicate, slice_set, slice_index_or}
+use Rattle.std.specs.Prelude.{Option}
 use Rattle.std.specs.List.{remove}
 use Rattle.w32_base.specs.declared.instr.Action.{Action}
 use Rattle.layer_spec.specs.Heap.{HeapChild, HeapFields, without_handler}

@@ -1,10 +1,12 @@
 //! Writes to the bytes of a cygheap, field by field.
 
 ghost use Rattle.std.specs.Prelude.{◌≡◌, ◌≤◌, ◌<◌, IsTrue};
-ghost use Rattle.layer_spec.specs.Heap.{IsHeapBytes, heap_bytes, is_mask, is_saved_mask, saved_flag, saved_mask, is_action, is_base, action_bytes, child_bytes};
+ghost use Rattle.layer_spec.specs.Heap.{IsHeapBytes, heap_bytes, is_mask, is_saved_mask, saved_flag, saved_mask};
+ghost use Rattle.layer_spec.specs.Heap.{is_action, is_base, action_bytes, child_bytes};
 ghost use Rattle.layer_spec.specs.HeapReads.{child_count_in};
 ghost use Rattle.cygheap_image.specs.Fields.{fields_in};
-ghost use Rattle.cygheap_image.specs.Changes.{with_mask, with_saved, with_owed, with_action, with_base, with_child, without_child, with_note, without_children, without_bases};
+ghost use Rattle.cygheap_image.specs.Changes.{with_mask, with_saved, with_owed, with_action, with_base, with_child};
+ghost use Rattle.cygheap_image.specs.Changes.{without_child, with_note, without_children, without_bases};
 
 use crate::places::{put, take_out};
 use crate::readers::{child, children};

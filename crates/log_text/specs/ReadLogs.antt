@@ -10,6 +10,10 @@ use Rattle.log_spec.specs.LogFaults.{front}
 use Rattle.log_text.specs.declared.error.LogError.{LogError}
 use Rattle.log_text.specs.declared.error.LogError.TheVariants as error
 
+-- the most bytes of a log that is read
+abbrev pub most_log_bytes : ℕ
+most_log_bytes = 67108864
+
 -- The line is the fault of these bytes. Where memory runs out, nothing is said.
 abbrev pub IsFault : Script → List ℕ → LogError → Type 0
 IsFault script bytes (error.Fault number) = IsLogFault script bytes number

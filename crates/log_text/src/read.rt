@@ -9,7 +9,7 @@ ghost use Rattle.log_spec.specs.Events.{event_text, is_event_within};
 ghost use Rattle.log_spec.specs.EventsRead.{word_at, words_in};
 ghost use Rattle.log_spec.specs.EventsText.{IsEventsText, IsLogFault, is_one_line};
 ghost use Rattle.log_text.specs.ReadEvents.{event_of_words};
-ghost use Rattle.log_text.specs.ReadLogs.{IsFault, is_end};
+ghost use Rattle.log_text.specs.ReadLogs.{IsFault, is_end, most_log_bytes};
 
 use crate::error::LogError;
 use crate::event::push_event;
@@ -133,7 +133,7 @@ fn add(events: &mut Vec<Event>, event: Event) -> Result<(), LogError>
 
 /// Reads a log in view `events` of a run of the script: its events, or its first line that doesn't belong there.
 pub fn read_events(alloc: Global, script: &Script, bytes: &[u8]) -> Result<Vec<Event>, LogError>
-    requires { length bytes.now ≤ 67108864 }
+    requires { length bytes.now ≤ most_log_bytes }
     ensures events { IfOk result (λ events. IsEventsText script.now bytes.now events.items) }
     ensures fault { IfErr result (λ error. IsFault script.now bytes.now error) }
 {

@@ -4,7 +4,8 @@ ghost use Rattle.std.specs.Prelude.{◌≡◌, ◌^◌, ◌<◌, IsTrue, true};
 ghost use Rattle.std.specs.Option.{option_map};
 ghost use Rattle.posix_spec.specs.Signals.{is_signal};
 ghost use Rattle.layer_spec.specs.Rows.{Running, Stopped, is_main, is_live_kind};
-ghost use Rattle.layer_spec.specs.Transitions.{blank, published, posted, woken, cleared, stopped, taken_over, sealed, reported, trans, is_op};
+ghost use Rattle.layer_spec.specs.Transitions.{blank, published, posted, woken, cleared, stopped, taken_over, sealed};
+ghost use Rattle.layer_spec.specs.Transitions.{reported, trans, is_op};
 ghost use Rattle.pinfo_word.specs.Fields.{shown_kind};
 ghost use Rattle.pinfo_word.specs.Shown.{shown_main, shown_op};
 

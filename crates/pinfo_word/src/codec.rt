@@ -2,7 +2,8 @@
 
 ghost use Rattle.std.specs.Prelude.{◌≡◌, ◌+◌, ◌^◌, ◌<◌};
 ghost use Rattle.std.specs.Option.{option_map};
-ghost use Rattle.layer_spec.specs.Rows.{is_main, is_group, is_exit, kind_number, kind_from, main_word_of, group_word_of, exit_word_of};
+ghost use Rattle.layer_spec.specs.Rows.{is_main, is_group, is_exit, kind_number, kind_from, main_word_of};
+ghost use Rattle.layer_spec.specs.Rows.{group_word_of, exit_word_of};
 ghost use Rattle.layer_spec.specs.Decoding.{field, main_fields, if_main, main_of, group_of, exit_of};
 ghost use Rattle.pinfo_word.specs.Fields.{shown_kind, main_by, group_by, exit_by};
 ghost use Rattle.pinfo_word.specs.Shown.{shown_main, shown_group, shown_exit};

@@ -15,8 +15,8 @@ use crate::{
 use std::alloc::Global;
 use w32_base::{Acting, Answer, Event, Memory};
 
-/// Carries an event out where it is a step, and answers whether it is one. It fails only for want of memory, at an event
-/// that may want for it.
+/// Carries an event out where it is a step, and answers whether it is one. It fails only for want of memory, at an
+/// event that may want for it.
 #[tactic(auto, unfolding(posix_spec::specs::Step::posix_step))]
 pub fn step(alloc: Global, m: &mut Machine, event: &Event) -> Result<bool, Memory>
     ensures gives { GivesOrFails (posix_step (script_of m.old) (state_of m.old) event.now) result m.old m.new }

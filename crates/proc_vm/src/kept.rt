@@ -6,7 +6,8 @@ ghost use Rattle.vm_spec.specs.Image.{image_of, with_image, in_use, SameSizes};
 ghost use Rattle.vm_spec.specs.Faults.{instr_faults};
 ghost use Rattle.vm_spec.specs.Step.{upcoming, LocalInstruction, after_local, local_step, block_of, IsBlock};
 ghost use Rattle.vm_spec.specs.Block.{block_length, block_image};
-ghost use Rattle.proc_vm.specs.Kept.{contents_of, with_contents, with_pushed, put_back, taken_back, IsChange, IsWithin, Fits};
+ghost use Rattle.proc_vm.specs.Kept.{contents_of, with_contents, with_pushed, put_back, taken_back, IsChange, IsWithin};
+ghost use Rattle.proc_vm.specs.Kept.{Fits};
 
 use crate::readers::{next_place, stack_in_use};
 use crate::step::{heap_place, step};

@@ -1,6 +1,7 @@
 //! One local instruction. Each function here carries out one where it doesn't fault, and answers whether it did.
 
-ghost use Rattle.std.specs.Prelude.{◌≡◌, ℕ, ◌+◌, ◌+ℤ◌, ◌<◌, ◌≤◌, ◌&&◌, ◌↔◌, length, pos, not, if◌then◌else◌, IsTrue, MatchOption, true};
+ghost use Rattle.std.specs.Prelude.{◌≡◌, ℕ, ◌+◌, ◌+ℤ◌, ◌<◌, ◌≤◌, ◌&&◌, ◌↔◌, length, pos, not, if◌then◌else◌, IsTrue};
+ghost use Rattle.std.specs.Prelude.{MatchOption, true};
 ghost use Rattle.std.specs.Int.{w32, int_wrap};
 ghost use Rattle.vm_spec.specs.Faults.{instr_faults, is_outside};
 ghost use Rattle.vm_spec.specs.Image.{image_of, with_image, place_of, in_use, value_of, SameSizes};

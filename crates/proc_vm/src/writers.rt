@@ -1,7 +1,8 @@
 //! What is written to the data region of a process.
 
 ghost use Rattle.std.specs.Prelude.{◌≡◌, ◌+◌, ◌<◌, length};
-ghost use Rattle.vm_spec.specs.Image.{image_of, with_image, with_register, at_place, moved_on, place_of, with_in_use, SameSizes, with_result};
+ghost use Rattle.vm_spec.specs.Image.{image_of, with_image, with_register, at_place, moved_on, place_of, with_in_use};
+ghost use Rattle.vm_spec.specs.Image.{SameSizes, with_result};
 
 use crate::readers::next_place;
 use crate::words::set_word;

@@ -36,7 +36,8 @@ one_of_log script log (judged.Verdict v) (judged.LogFault other) h k = absurd (k
 one_of_log script log (judged.Verdict v) (judged.Verdict w) h k =
     let same = one_list_of_events script log h.events k.events h.log_is k.log_is in
     let of_same : IsVerdict script h.events w = subst (λ es. IsVerdict script es w) (sym same) k.verdict_is in
-    ap (λ x. judged.Verdict x) (one_verdict script h.events v h.verdict_is ∙ sym (one_verdict script h.events w of_same))
+    ap (λ x. judged.Verdict x)
+    (one_verdict script h.events v h.verdict_is ∙ sym (one_verdict script h.events w of_same))
 
 one_of_script : (text log : List ℕ) (a b : Judged) → IsOfScript text log a → IsOfScript text log b → a ≡ b
 one_of_script text log a b h k =

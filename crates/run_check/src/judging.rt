@@ -1,6 +1,7 @@
 //! What a text of a script and a log is.
 
 ghost use Rattle.std.specs.Prelude.{◌≤◌, IfOk, length};
+ghost use Rattle.log_text.specs.ReadLogs.{most_log_bytes};
 ghost use Rattle.run_check.specs.Judging.{JudgesLog, JudgesParts, Judges};
 
 use crate::parts::parts;
@@ -32,7 +33,7 @@ pub enum Judged {
 
 // Judges the log of a run of the script.
 fn judge_log(alloc: Global, script: &Script, log: &[u8]) -> Result<Judged, Memory>
-    requires { length log.now ≤ 67108864 }
+    requires { length log.now ≤ most_log_bytes }
     ensures { IfOk result (λ judged. JudgesLog script.now log.now judged) }
 {
     match read_events(alloc, script, log) {
@@ -44,7 +45,7 @@ fn judge_log(alloc: Global, script: &Script, log: &[u8]) -> Result<Judged, Memor
 
 // Judges the text of a script and a log.
 fn judge_parts(alloc: Global, text: &[u8], log: &[u8]) -> Result<Judged, Memory>
-    requires { length log.now ≤ 67108864 }
+    requires { length log.now ≤ most_log_bytes }
     ensures { IfOk result (λ judged. JudgesParts text.now log.now judged) }
 {
     match read_script(alloc, text) {
@@ -57,7 +58,7 @@ fn judge_parts(alloc: Global, text: &[u8], log: &[u8]) -> Result<Judged, Memory>
 /// Judges a text of a script and a log: the script's first fault, else the log's, else whether its events are a run of
 /// the script. It fails only for want of memory.
 pub fn judge(alloc: Global, text: &[u8]) -> Result<Judged, Memory>
-    requires { length text.now ≤ 67108864 }
+    requires { length text.now ≤ most_log_bytes }
     ensures { IfOk result (λ judged. Judges text.now judged) }
 {
     let (script, log) = parts(text);

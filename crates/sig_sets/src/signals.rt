@@ -1,7 +1,8 @@
 //! What becomes of a signal.
 
 ghost use Rattle.std.specs.Prelude.{◌≡◌, ◌<◌, ◌^◌, IsTrue, if◌then◌else◌};
-ghost use Rattle.posix_spec.specs.Signals.{is_signal, is_stop_signal, taken_by, generate, outside, least, clean_mask, default_of};
+ghost use Rattle.posix_spec.specs.Signals.{is_signal, is_stop_signal, taken_by, generate, outside, least, clean_mask};
+ghost use Rattle.posix_spec.specs.Signals.{default_of};
 ghost use Rattle.sig_sets.specs.Shown.{shown_default, bits_of};
 
 use crate::set::SigSet;

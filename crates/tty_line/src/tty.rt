@@ -2,7 +2,8 @@
 
 ghost use Rattle.std.specs.Prelude.{◌≡◌, ℕ, ◌≤◌, ◌<◌, [], ◌∷◌, ◌++◌, length, Option, Some, None, MatchOption};
 ghost use Rattle.tty_spec.specs.Terminal.{Terminal, terminal_session, opening_terminal};
-ghost use Rattle.tty_spec.specs.Discipline.{after_key, after_take, has_flag, has_line, signal_of_key, signalling, erasing, killing, ending, adding, editing};
+ghost use Rattle.tty_spec.specs.Discipline.{after_key, after_take, has_flag, has_line, signal_of_key, signalling};
+ghost use Rattle.tty_spec.specs.Discipline.{erasing, killing, ending, adding, editing};
 ghost use Rattle.tty_line.specs.Key.{IsKeyDone};
 ghost use Rattle.tty_line.specs.Peek.{bytes_taken};
 
