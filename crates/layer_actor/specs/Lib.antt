@@ -26,3 +26,5 @@ pub mod GetsClause
 pub mod GetsLooks
 pub mod GetsTurns
 pub mod Built
+pub mod OpensMain
+pub mod BuiltLaws
