@@ -62,7 +62,8 @@ next_call : (code : List Instr) (image : Image) (i : Instr) → upcoming code im
 unfolding upcoming
 next_call code image i next = by_fault (faults code image) next
   where
-    by_fault : (b : Bool) → (if b then ImageFault else upcoming_at (slice_get code (place_of image))) ≡ CallInstruction i
+    by_fault : (b : Bool)
+        → (if b then ImageFault else upcoming_at (slice_get code (place_of image))) ≡ CallInstruction i
         → (slice_get code (place_of image) ≡ Some i) × (is_local i ≡ false)
     by_fault true e = absurd (cc)
     by_fault false e = found_call (slice_get code (place_of image)) i e

@@ -28,3 +28,7 @@ pub mod GetsTurns
 pub mod Built
 pub mod OpensMain
 pub mod BuiltLaws
+pub mod OwnProgram
+pub mod CallBytes
+pub mod PostedBytes
+pub mod KnowsTurn
