@@ -32,3 +32,5 @@ pub mod OwnProgram
 pub mod CallBytes
 pub mod PostedBytes
 pub mod KnowsTurn
+pub mod NextNumbers
+pub mod NoneComes
