@@ -18,6 +18,14 @@ pub mod LookFree
 pub mod LookSteps
 pub mod LookTurns
 pub mod LookWhole
+pub mod MainClause
+pub mod MainPieces
+pub mod MainFollows
+pub mod MainKnows
+pub mod MainTurns
+pub mod ActorClause
+pub mod ActorOwes
+pub mod ActorTells
 pub mod StartReplies
 pub mod StartClause
 pub mod StartTurns

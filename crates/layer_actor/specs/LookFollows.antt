@@ -23,11 +23,12 @@ use Rattle.layer_actor.specs.Doing.{rests, looks, gets, exits}
 use Rattle.layer_actor.specs.LookClause.{IsMainOf}
 use Rattle.layer_actor.specs.MainGoes.{does}
 
--- the main thread of process w is at what is next
+-- the main thread of process w is at what is next, and the record's image is the one in the memory of the process
 pub record StandsAt {A : Type 0} (script : Script) (after : Moment A) (w : ℕ) (who : Identity) (next : Upcoming)
     : Type 0 where
   pub main : IsMainOf who after.win32 w
   pub at : IsAtNext script after w who.row next
+  pub image : at.noted.image ≡ image_of (memory_by after.win32 w)
 
 module _ {A : Type 0} (script : Script) (clause : List (Seen A) → Moment A → ℕ → MainThread → Type 0) where
   -- Each part that may come next stands where its clause says: one that rests; the next look, after a call that was

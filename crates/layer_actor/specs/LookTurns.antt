@@ -132,9 +132,9 @@ module _ {A : Type 0} (script : Script) (clause : List (Seen A) → Moment A →
   by_rest = by_quiet rests (λ later after so same. (follows later after w who).rested)
 
   -- what is next now is next after it
-  stands_after : (u : Upcoming) → IsAtNext script now w who.row u → (after : Moment A) → Quiet after
-      → memory_by after.win32 w ≡ bytes → StandsAt script after w who u
-  stands_after u at after so same = record {
+  stands_after : (u : Upcoming) → (at : IsAtNext script now w who.row u) → at.noted.image ≡ image_of bytes
+      → (after : Moment A) → Quiet after → memory_by after.win32 w ≡ bytes → StandsAt script after w who u
+  stands_after u at image after so same = record {
     main = record {
       image = main.image;
       runs = same-program now.win32 after.win32 w
@@ -153,14 +153,15 @@ module _ {A : Type 0} (script : Script) (clause : List (Seen A) → Moment A →
       next_is = at.next_is;
       unmarked = own-unmarked now.win32 after.win32 w who.row so.change at.unmarked;
     };
+    image = image ∙ sym (ap image_of same);
   }
 
   -- a part begins at what is next
-  by_begin : (u : Upcoming) → IsAtNext script now w who.row u → (d : Doing)
+  by_begin : (u : Upcoming) → (at : IsAtNext script now w who.row u) → at.noted.image ≡ image_of bytes → (d : Doing)
       → ((later : List (Seen A)) (after : Moment A) → StandsAt script after w who u → memory_by after.win32 w ≡ bytes
       → clause later after w (does who d)) → GoesBy (own_turns.goes_to d bytes) → Result
-  by_begin u at d stands =
-      by_quiet d (λ later after so same. stands later after (stands_after u at after so same) same)
+  by_begin u at image d stands =
+      by_quiet d (λ later after so same. stands later after (stands_after u at image after so same) same)
 
   -- a call is answered at once
   by_answer : (r0 : ℤ) (told : Event) → PosixStep script now.posix told (answered now.posix (who.row + 1) r0)
@@ -210,7 +211,7 @@ module _ {A : Type 0} (script : Script) (clause : List (Seen A) → Moment A →
           errno.ESRCH))
           → Result
       by_has true has f =
-          by_begin (CallInstruction (instr.Kill target signal)) at
+          by_begin (CallInstruction (instr.Kill target signal)) at image
           (doing.Kill (kill_begun (who.row + 1) (row_of q) (as_signal n)))
           (λ later after stands same. (follows later after w who).killing target signal q n stands
           (ap (λ o. killing_signal (value_of (image_of o) signal)) same ∙ s_is)
@@ -226,16 +227,17 @@ module _ {A : Type 0} (script : Script) (clause : List (Seen A) → Moment A →
       by_answer (pos (who.row + 1)) (event.Get (who.row + 1) field.Pid (pos (who.row + 1)))
       (getpid-steps script now w who.row at) (pid_event script (who.row + 1)) e
   by_call instr.GetPpid at image e =
-      by_begin (CallInstruction instr.GetPpid) at (gets who asked.Parent)
+      by_begin (CallInstruction instr.GetPpid) at image (gets who asked.Parent)
       (λ later after stands same. (follows later after w who).parent stands) e
   by_call instr.GetPgid at image e =
-      by_begin (CallInstruction instr.GetPgid) at (gets who asked.Group)
+      by_begin (CallInstruction instr.GetPgid) at image (gets who asked.Group)
       (λ later after stands same. (follows later after w who).group stands) e
   by_call instr.GetSid at image e =
-      by_begin (CallInstruction instr.GetSid) at (gets who asked.Session)
+      by_begin (CallInstruction instr.GetSid) at image (gets who asked.Session)
       (λ later after stands same. (follows later after w who).session stands) e
   by_call (instr.Exit v) at image e =
-      by_begin (CallInstruction (instr.Exit v)) at (exits who (ending.Exit (low_byte (value_of (image_of bytes) v))))
+      by_begin (CallInstruction (instr.Exit v)) at image
+      (exits who (ending.Exit (low_byte (value_of (image_of bytes) v))))
       (λ later after stands same. subst (λ o. clause later after w
       (does who (exits who (ending.Exit (low_byte (value_of (image_of o) v)))))) same
       ((follows later after w who).exiting v stands)) e
@@ -247,11 +249,12 @@ module _ {A : Type 0} (script : Script) (clause : List (Seen A) → Moment A →
   by_next : (u : Upcoming) → (at : IsAtNext script now w who.row u) → at.noted.image ≡ image_of bytes
       → GoesBy (begins script.setup.limits.rows who bytes u) → Result
   by_next LocalInstruction at image e =
-      by_begin LocalInstruction at (doing.Local (local.Running who.row))
+      by_begin LocalInstruction at image (doing.Local (local.Running who.row))
       (λ later after stands same. (follows later after w who).running stands) e
   by_next (CallInstruction i) at image e = by_call i at image e
   by_next ImageFault at image e =
-      by_begin ImageFault at (exits who ending.Fault) (λ later after stands same. (follows later after w who).faults
+      by_begin ImageFault at image (exits who ending.Fault)
+      (λ later after stands same. (follows later after w who).faults
       stands) e
 
   by_free : (m : MainWord) → m ≡ (own_row script past now w who.row sound between live).main → (b : Bool)

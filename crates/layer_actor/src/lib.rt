@@ -6,6 +6,7 @@ mod actor;
 mod built_words;
 mod doing;
 mod gets;
+mod guarantee;
 mod identity;
 mod idle;
 mod local;
