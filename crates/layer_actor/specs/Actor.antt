@@ -1,17 +1,15 @@
 -- The part of a thread for its whole life, as the sum of the threads' parts: the main thread of a layer process, the
 -- host's starter, and each other thread, whose part isn't built yet.
-use Rattle.std.specs.Prelude.{◌≡◌, ℕ, ◌&&◌, not, nat_eq, if◌then◌else◌}
+use Rattle.std.specs.Prelude.{ℕ, nat_eq, if◌then◌else◌}
 use Rattle.w32_base.specs.declared.call.Call.{Call}
 use Rattle.w32_base.specs.declared.call.Reply.{Reply}
 use Rattle.w32_base.specs.declared.own.Own.{Own}
 use Rattle.w32_base.specs.declared.setup.Setup.{Setup}
 use Rattle.layer_turns.specs.OwnTurns.{OwnTurn, goes_to}
-use Rattle.job_control.specs.declared.starter.Starter.{Starter}
 use Rattle.job_control.specs.declared.starter.Starter.TheVariants as starter
 use Rattle.job_control.specs.Starter.{starter_posted, starter_after, starter_rank}
 use Rattle.layer_actor.specs.declared.identity.Identity.{Identity}
 use Rattle.layer_actor.specs.declared.start.StartStep.TheVariants as start
-use Rattle.layer_actor.specs.declared.idle.Idle.{Idle}
 use Rattle.layer_actor.specs.declared.idle.Idle.TheVariants as idle
 use Rattle.layer_actor.specs.declared.doing.Doing.{Doing}
 use Rattle.layer_actor.specs.declared.doing.Doing.TheVariants as doing
@@ -20,7 +18,7 @@ use Rattle.layer_actor.specs.declared.actor.Serves.{Serves}
 use Rattle.layer_actor.specs.declared.actor.Serves.TheVariants as serves
 use Rattle.layer_actor.specs.declared.actor.Actor.{Actor}
 use Rattle.layer_actor.specs.Idle.{idle_posted, idle_rank}
-use Rattle.layer_actor.specs.Doing.{doing_posted, doing_after, doing_rank, rests}
+use Rattle.layer_actor.specs.Doing.{doing_posted, doing_after, doing_rank}
 
 -- the first process has row 1, and its image the Win32 number 2
 abbrev pub first_identity : Identity

@@ -1,5 +1,5 @@
 -- The laws of a part that serves one thread for its whole life.
-use Rattle.std.specs.Prelude.{◌≡◌, ◌≢◌, ◌↔◌, IsTrue, ℕ, ◌<◌, true, false, nat_eq, Option}
+use Rattle.std.specs.Prelude.{◌≡◌, ◌≢◌, ◌↔◌, IsTrue, ℕ, ◌<◌, true, false, nat_eq}
 use Rattle.std.proofs.Common.{refl, sym, ap, ◌∙◌, subst, arith}
 use Rattle.std.proofs.lemmas.Bool.{cond_both}
 use Rattle.w32_base.specs.declared.call.Call.TheVariants.{Load}
@@ -7,20 +7,15 @@ use Rattle.w32_base.specs.declared.call.Reply.{Reply}
 use Rattle.w32_base.specs.declared.own.Own.{Own}
 use Rattle.w32_base.specs.declared.part.After.{After}
 use Rattle.w32_base.specs.declared.setup.Setup.{Setup}
-use Rattle.w32_base.specs.Part.{may_keep_rank, KeepsImage, with_image_of}
+use Rattle.w32_base.specs.Part.{KeepsImage, with_image_of}
 use Rattle.layer_turns.specs.OwnTurns.{WentOn, IsFair}
 use Rattle.layer_turns.specs.OwnTurnsLaws.{same_lengths}
-use Rattle.job_control.specs.declared.starter.Starter.{Starter}
 use Rattle.job_control.specs.declared.starter.Starter.TheVariants as starter
-use Rattle.job_control.specs.Starter.{starter_after}
 use Rattle.job_control.specs.StarterLaws.{starter_lowers, starter_goes_on}
-use Rattle.layer_actor.specs.declared.idle.Idle.{Idle}
 use Rattle.layer_actor.specs.declared.idle.Idle.TheVariants as idle
-use Rattle.layer_actor.specs.declared.actor.MainThread.{MainThread}
 use Rattle.layer_actor.specs.declared.actor.Serves.{Serves}
 use Rattle.layer_actor.specs.declared.actor.Serves.TheVariants as serves
 use Rattle.layer_actor.specs.declared.actor.Actor.{Actor}
-use Rattle.layer_actor.specs.Doing.{doing_after}
 use Rattle.layer_actor.specs.DoingLaws.{doing_fair, doing_goes_on}
 use Rattle.layer_actor.specs.Actor.{main_opened, serves_opened, actor_opened, thread_of, serves_posted, actor_posted}
 use Rattle.layer_actor.specs.Actor.{serves_after, actor_after, serves_rank, actor_rank}

@@ -21,8 +21,8 @@ use Rattle.posix_spec.specs.Signals.{least, outside, clean_mask}
 use Rattle.layer_spec.specs.Decoding.{main_of}
 use Rattle.layer_spec.specs.HeapReads.{mask_in}
 use Rattle.layer_spec.specs.Rows.{RowKind, Free, Held, Running, Stopped, Zombie, Gone, MainWord, main_place}
-use Rattle.roster.specs.Turns.{Turn, quietly, section_handle, by_word}
-use Rattle.layer_turns.specs.OwnTurns.{OwnTurn, goes_to, on_own, answers}
+use Rattle.roster.specs.Turns.{section_handle, by_word}
+use Rattle.layer_turns.specs.OwnTurns.{OwnTurn, goes_to, answers}
 use Rattle.kill_calls.specs.declared.one.KillStep.{KillStep}
 use Rattle.kill_calls.specs.declared.one.KillStep.TheVariants as kill
 use Rattle.kill_calls.specs.declared.one.KillOne.{KillOne}
@@ -32,13 +32,11 @@ use Rattle.kill_calls.specs.Kill.{kill_posted, kill_after, kill_rank_by}
 use Rattle.kill_calls.specs.KillStart.{kill_starts}
 use Rattle.child_watch.specs.declared.ending.Ending.{Ending}
 use Rattle.child_watch.specs.declared.ending.Ending.TheVariants as ending
-use Rattle.child_watch.specs.declared.exiting.Exiting.{Exiting}
 use Rattle.child_watch.specs.Exiting.{exit_begun, exit_posted, exit_after, exit_rank}
 use Rattle.layer_actor.specs.declared.identity.Identity.{Identity}
 use Rattle.layer_actor.specs.declared.start.StartStep.{StartStep}
 use Rattle.layer_actor.specs.declared.start.StartStep.TheVariants as start
 use Rattle.layer_actor.specs.declared.start.Start.{Start}
-use Rattle.layer_actor.specs.declared.look.Look.{Look}
 use Rattle.layer_actor.specs.declared.local.Local.{Local}
 use Rattle.layer_actor.specs.declared.local.Local.TheVariants as local
 use Rattle.layer_actor.specs.declared.gets.Asked.{Asked}
@@ -46,7 +44,6 @@ use Rattle.layer_actor.specs.declared.gets.Asked.TheVariants as asked
 use Rattle.layer_actor.specs.declared.gets.GetStep.{GetStep}
 use Rattle.layer_actor.specs.declared.gets.GetStep.TheVariants as get
 use Rattle.layer_actor.specs.declared.gets.Gets.{Gets}
-use Rattle.layer_actor.specs.declared.idle.Idle.{Idle}
 use Rattle.layer_actor.specs.declared.idle.Idle.TheVariants as idle
 use Rattle.layer_actor.specs.declared.doing.Doing.{Doing}
 use Rattle.layer_actor.specs.declared.doing.Doing.TheVariants as doing

@@ -1,19 +1,17 @@
 -- A turn of a main thread is fair: it lowers the rank, unless it may keep it, and keeps the length of each region.
-use Rattle.std.specs.Prelude.{◌≡◌, ℕ, ◌+◌, ◌<◌, ◌≤◌, ℤ, pos, Bool, true, false, if◌then◌else◌, Option, Some, None}
-use Rattle.std.proofs.Common.{refl, sym, ap, ◌∙◌, subst, arith}
+use Rattle.std.specs.Prelude.{◌≡◌, ℕ, ◌+◌, ◌<◌, ℤ, pos, true, false, Option, Some, None}
+use Rattle.std.proofs.Common.{refl, sym, subst, arith}
 use Rattle.std.proofs.lemmas.Bool.{cond_both}
 use Rattle.w32_base.specs.declared.event.Answer.TheVariants.{Error}
 use Rattle.w32_base.specs.declared.event.Event.TheVariants as event
 use Rattle.w32_base.specs.declared.event.Field.TheVariants as field
 use Rattle.w32_base.specs.declared.event.Errno.TheVariants as errno
-use Rattle.w32_base.specs.declared.call.Call.{Call}
 use Rattle.w32_base.specs.declared.call.Reply.{Reply}
 use Rattle.w32_base.specs.declared.call.Reply.TheVariants as reply
 use Rattle.w32_base.specs.declared.instr.Instr.{Instr}
 use Rattle.w32_base.specs.declared.instr.Instr.TheVariants as instr
 use Rattle.w32_base.specs.declared.own.Own.{Own}
 use Rattle.w32_base.specs.declared.setup.Setup.{Setup}
-use Rattle.w32_base.specs.Part.{may_keep_rank}
 use Rattle.vm_spec.specs.Image.{image_of, value_of}
 use Rattle.vm_spec.specs.Step.{Upcoming, LocalInstruction, CallInstruction, ImageFault, upcoming}
 use Rattle.posix_spec.specs.GroupCalls.{killing_signal}
@@ -22,20 +20,19 @@ use Rattle.posix_spec.specs.Numbers.{error_result}
 use Rattle.layer_spec.specs.Decoding.{main_of}
 use Rattle.layer_spec.specs.Rows.{MainWord}
 use Rattle.layer_spec.specs.Words.{row_of}
-use Rattle.roster.specs.Turns.{quietly, all_by_word}
-use Rattle.layer_turns.specs.OwnTurns.{OwnTurn, goes_to, on_own, IsFair}
+use Rattle.roster.specs.Turns.{all_by_word}
+use Rattle.layer_turns.specs.OwnTurns.{OwnTurn, goes_to, IsFair}
 use Rattle.layer_turns.specs.OwnTurnsLaws.{same_lengths, answers_fair}
 use Rattle.kill_calls.specs.declared.one.KillStep.{KillStep}
 use Rattle.kill_calls.specs.declared.one.KillStep.TheVariants as kill
 use Rattle.kill_calls.specs.declared.one.KillOne.{KillOne}
-use Rattle.kill_calls.specs.declared.start.KillStart.{KillStart}
 use Rattle.kill_calls.specs.declared.start.KillStart.TheVariants as kill_start
-use Rattle.kill_calls.specs.Kill.{kill_begun, kill_posted, kill_after, kill_step_after, kill_rank_by}
+use Rattle.kill_calls.specs.Kill.{kill_begun, kill_posted, kill_step_after, kill_rank_by}
 use Rattle.kill_calls.specs.KillLaws.{kill_step_fair}
 use Rattle.kill_calls.specs.KillStart.{has_row, as_signal, kill_by_target}
 use Rattle.child_watch.specs.declared.exiting.ExitStep.{ExitStep}
 use Rattle.child_watch.specs.declared.exiting.ExitStep.TheVariants as exit
-use Rattle.child_watch.specs.Exiting.{exit_after, exit_step_rank}
+use Rattle.child_watch.specs.Exiting.{exit_step_rank}
 use Rattle.child_watch.specs.ExitingLaws.{exit_lowers}
 use Rattle.layer_actor.specs.declared.identity.Identity.{Identity}
 use Rattle.layer_actor.specs.declared.start.StartStep.{StartStep}
@@ -47,7 +44,6 @@ use Rattle.layer_actor.specs.declared.local.Local.TheVariants as local
 use Rattle.layer_actor.specs.declared.gets.GetStep.{GetStep}
 use Rattle.layer_actor.specs.declared.gets.GetStep.TheVariants as get
 use Rattle.layer_actor.specs.declared.gets.Gets.{Gets}
-use Rattle.layer_actor.specs.declared.idle.Idle.{Idle}
 use Rattle.layer_actor.specs.declared.idle.Idle.TheVariants as idle
 use Rattle.layer_actor.specs.declared.doing.Doing.{Doing}
 use Rattle.layer_actor.specs.declared.doing.Doing.TheVariants as doing
@@ -56,8 +52,8 @@ use Rattle.layer_actor.specs.StartLaws.{start_step_lowers}
 use Rattle.layer_actor.specs.Local.{local_posted, local_after, local_rank_by, local_lowers}
 use Rattle.layer_actor.specs.Gets.{get_posted, get_step_after, get_rank_by}
 use Rattle.layer_actor.specs.GetsLaws.{get_step_fair}
-use Rattle.layer_actor.specs.Doing.{doing_posted, rests, looks, gets, exits, begins_getpid, begins_kill, begins_call}
-use Rattle.layer_actor.specs.Doing.{begins, code_in, is_free, look_by, look_after, start_goes, local_goes, get_goes}
+use Rattle.layer_actor.specs.Doing.{doing_posted, rests, looks, begins_kill, begins_call}
+use Rattle.layer_actor.specs.Doing.{begins, code_in, is_free, look_by, start_goes, local_goes, get_goes}
 use Rattle.layer_actor.specs.Doing.{kill_goes, doing_after, doing_rank}
 
 -- what is asked of a turn of the look

@@ -18,7 +18,7 @@ use Rattle.layer_actor.specs.declared.gets.Asked.TheVariants as asked
 use Rattle.layer_actor.specs.declared.gets.GetStep.{GetStep}
 use Rattle.layer_actor.specs.declared.gets.GetStep.TheVariants as get
 use Rattle.layer_actor.specs.declared.gets.Gets.{Gets}
-use Rattle.layer_actor.specs.Gets.{get_step_posted, get_posted, get_event, get_answers, get_parent, get_grouped}
+use Rattle.layer_actor.specs.Gets.{get_step_posted, get_posted, get_event, get_answers, get_grouped}
 use Rattle.layer_actor.specs.Gets.{get_looked, get_step_after, get_after, get_rank_by, get_rank}
 
 -- what is asked of a turn of a step, where so many turns follow the call

@@ -12,7 +12,6 @@ use Rattle.vm_spec.specs.Step.{CallInstruction}
 use Rattle.win32_spec.specs.Call.{CallStep}
 use Rattle.win32_spec.specs.Lookup.{memory_by}
 use Rattle.win32_spec.specs.State.{Win32State}
-use Rattle.posix_spec.specs.Conditions.{answered}
 use Rattle.posix_spec.specs.Groups.{shown_parent}
 use Rattle.posix_spec.specs.Records.{is_live_at}
 use Rattle.posix_spec.specs.SignalLaws.{first_of, second_of}

@@ -1,5 +1,5 @@
 -- A block of local instructions: it is carried out by the call, and its length is the event's.
-use Rattle.std.specs.Prelude.{◌≡◌, ℕ, ◌+◌, ◌<◌, pos, true, false, Some}
+use Rattle.std.specs.Prelude.{◌≡◌, ℕ, ◌+◌, pos, true, false, Some}
 use Rattle.std.proofs.Common.{arith}
 use Rattle.w32_base.specs.declared.call.Call.{Call}
 use Rattle.w32_base.specs.declared.call.Call.TheVariants as call

@@ -4,7 +4,6 @@ use Rattle.std.proofs.Common.{◌≡◌, ℕ, if◌then◌else◌, ◌+◌, ◌�
 use Rattle.std.proofs.Common.{Some, None, refl, sym, ap, ◌∙◌, subst, arith, leb-true}
 use Rattle.w32_base.specs.declared.instr.Instr.TheVariants as instr
 use Rattle.w32_base.specs.declared.instr.Operand.{Operand}
-use Rattle.w32_base.specs.declared.instr.Operand.TheVariants as operand
 use Rattle.script_spec.specs.declared.script.Script.{Script}
 use Rattle.vm_spec.specs.Image.{image_of, value_of}
 use Rattle.vm_spec.specs.Step.{CallInstruction, ImageFault, low_byte}
