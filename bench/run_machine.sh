@@ -1,6 +1,6 @@
 #!/bin/sh
-# Times the turns of machine_bench, as `rt run` builds it, with one slot and with 64: one run, on one machine. The time of
-# no turns is taken off. Prints the turns a second of each, and their ratio. Usage: bench/run_machine.sh [TURNS]
+# Times the turns of machine_bench, as `rt run` builds it, with one slot and with 64: one run, on one machine. The time
+# of no turns is taken off. Prints the turns a second of each, and their ratio. Usage: bench/run_machine.sh [TURNS]
 set -eu
 top=$(cd "$(dirname "$0")/.." && pwd)
 turns=${1:-20000000}
