@@ -200,3 +200,8 @@ both_place (Ok x) b ws q e f h v =
     let is : x.1 ≡ clamped (value_of q.1) = let P : Result ℕ Kind
     → Type 0 = λ c. IfOk c (λ p. p ≡ clamped (value_of q.1)) in subst P h v in
     two_place_is ws q x.1 e f is
+
+-- what becomes of a form of one word, or of two
+pub ruleset one_form = (one_fault, no_one_fault, one_is)
+
+pub ruleset two_form = (two_fault, no_two_fault, two_is)

@@ -53,3 +53,5 @@ unended_line text p e h =
     let c : weight_of (pieces 10 text) ≡ suc (length p) + 0 = ap weight_of e in
     let some : 0 < length p = omega (arith, a, c, h) in
     ap as_lines e ∙ last_line p some
+
+pub ruleset cut_lines = (rest_shorter, ended_line, unended_line)

@@ -33,7 +33,7 @@ fn alone(instr: Instr, rest: Option<&[u8]>) -> Result<Instr, Kind>
 }
 
 /// An operand.
-#[tactic(auto, using(crate::proofs::Forms::one_fault, crate::proofs::Forms::no_one_fault, crate::proofs::Forms::one_is))]
+#[tactic(auto, using(crate::proofs::Forms::one_form))]
 fn one_operand(rest: Option<&[u8]>) -> Result<Operand, Kind>
     ensures fault { fault_in result ≡ forms_fault ((ValueWord ∷ []) ∷ [])
         (words_after (option_map (λ r. r.now) rest.entry)) }
@@ -47,7 +47,7 @@ fn one_operand(rest: Option<&[u8]>) -> Result<Operand, Kind>
 }
 
 /// Two operands.
-#[tactic(auto, using(crate::proofs::Forms::two_fault, crate::proofs::Forms::no_two_fault, crate::proofs::Forms::two_is))]
+#[tactic(auto, using(crate::proofs::Forms::two_form))]
 fn two_operands(rest: Option<&[u8]>) -> Result<(Operand, Operand), Kind>
     ensures fault { fault_in result ≡ forms_fault ((ValueWord ∷ ValueWord ∷ []) ∷ [])
         (words_after (option_map (λ r. r.now) rest.entry)) }
@@ -62,7 +62,7 @@ fn two_operands(rest: Option<&[u8]>) -> Result<(Operand, Operand), Kind>
 }
 
 /// A register.
-#[tactic(auto, using(crate::proofs::Forms::one_fault, crate::proofs::Forms::no_one_fault, crate::proofs::Forms::one_is))]
+#[tactic(auto, using(crate::proofs::Forms::one_form))]
 fn one_register(rest: Option<&[u8]>) -> Result<Register, Kind>
     ensures fault { fault_in result ≡ forms_fault ((RegisterWord ∷ []) ∷ [])
         (words_after (option_map (λ r. r.now) rest.entry)) }
@@ -76,7 +76,7 @@ fn one_register(rest: Option<&[u8]>) -> Result<Register, Kind>
 }
 
 /// A register and an operand.
-#[tactic(auto, using(crate::proofs::Forms::two_fault, crate::proofs::Forms::no_two_fault, crate::proofs::Forms::two_is))]
+#[tactic(auto, using(crate::proofs::Forms::two_form))]
 fn register_and_operand(rest: Option<&[u8]>) -> Result<(Register, Operand), Kind>
     ensures fault { fault_in result ≡ forms_fault ((RegisterWord ∷ ValueWord ∷ []) ∷ [])
         (words_after (option_map (λ r. r.now) rest.entry)) }
@@ -123,7 +123,7 @@ fn operand_and_place(rest: Option<&[u8]>) -> Result<(Operand, u16), Kind>
 }
 
 /// A name.
-#[tactic(auto, using(crate::proofs::Forms::one_fault, crate::proofs::Forms::no_one_fault, crate::proofs::Forms::one_is))]
+#[tactic(auto, using(crate::proofs::Forms::one_form))]
 fn one_name(rest: Option<&[u8]>) -> Result<Name, Kind>
     ensures fault { fault_in result ≡ forms_fault ((NameWord ∷ []) ∷ [])
         (words_after (option_map (λ r. r.now) rest.entry)) }

@@ -1,6 +1,6 @@
 //! Reads the text of a script.
 
-ghost use Rattle.std.specs.Prelude.{◌≡◌, ◌<◌, ◌∷◌, length, IfOk};
+ghost use Rattle.std.specs.Prelude.{◌≡◌, ◌<◌, ◌∷◌, length};
 ghost use Rattle.script_spec.specs.FirstFault.{fault_of};
 ghost use Rattle.script_spec.specs.Grammar.{IsScript};
 ghost use Rattle.script_spec.specs.Lines.{lines_of};
@@ -13,7 +13,7 @@ use script_spec::{Kind, MOST_BYTES, Script};
 use std::alloc::Global;
 
 /// The first line of a text that isn't empty: its bytes, whether LF ends it, and the text after it.
-#[tactic(auto, using(crate::proofs::TextLines::rest_shorter, crate::proofs::TextLines::ended_line, crate::proofs::TextLines::unended_line))]
+#[tactic(auto, using(crate::proofs::TextLines::cut_lines))]
 fn first_line(text: &[u8]) -> (&[u8], bool, &[u8])
     requires { 0 < length text.now }
     ensures lines { lines_of text.now ≡ record { bytes = result.0.now; is_ended = result.1 } ∷ lines_of result.2.now }
