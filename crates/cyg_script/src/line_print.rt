@@ -3,7 +3,6 @@
 ghost use Rattle.std.specs.Prelude.{◌≡◌, ◌++◌, ◌∷◌, [], OnOk, codes};
 ghost use Rattle.std.specs.Fmt.{decimal};
 ghost use Rattle.script_spec.specs.InstrText.{register_text, operand_text};
-ghost use Rattle.script_spec.specs.Lines.{spaced};
 ghost use Rattle.script_spec.specs.Print.{key_text, line_text};
 
 use crate::word_print::{key_byte, number, operand, register};

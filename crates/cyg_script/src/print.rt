@@ -2,7 +2,7 @@
 
 ghost use Rattle.std.specs.Prelude.{◌≡◌, ◌++◌, IfOk, OnOk, map};
 ghost use Rattle.script_spec.specs.InstrText.{instr_words};
-ghost use Rattle.script_spec.specs.Print.{limits_words, module_words, occupied_words, program_words, program_lines};
+ghost use Rattle.script_spec.specs.Print.{limits_words, module_words, occupied_words, program_lines};
 ghost use Rattle.script_spec.specs.Print.{programs_lines, directive_words, schedule_words, print_of, words_text};
 ghost use Rattle.script_spec.specs.Print.{line_text};
 

@@ -27,7 +27,8 @@ returns-in_ok-end_program-clause-read c = λ read a.
     c.first_word-first.result c.bytes_fault-form.result _ c.at_line.ensures shown c.cut.ensures
     c.first_word-first.ensures c.bytes_fault-form.ensures
     (λ t. no_target (past_end read) end.0)
-    (c.ending.ensures.read c.args.number read line c.cut.result.0.now end.1 c.bytes_fault-form.ensures c.first_word-first.ensures)
+    (c.ending.ensures.read c.args.number read line c.cut.result.0.now end.1 c.bytes_fault-form.ensures
+    c.first_word-first.ensures)
 
 pub returns-else-ends_program-clause-read : goal.returns-else-ends_program-clause-read
 returns-else-ends_program-clause-read c = λ read a.
