@@ -1,11 +1,18 @@
 -- The words of each command.
 use Rattle.std.specs.Prelude.{◌≡◌, ◌≢◌, ℕ, ◌≤◌, List, [], ◌∷◌, codes}
 use Rattle.std.specs.Fmt.{decimal}
+use Rattle.w32_base.specs.declared.entry.View.{View}
+use Rattle.w32_base.specs.declared.entry.View.TheVariants as view
 use Rattle.cyg_cli.specs.declared.commands.Command.{Command}
-use Rattle.cyg_cli.specs.declared.commands.Command.TheVariants.{RunCalls, Check, Make}
+use Rattle.cyg_cli.specs.declared.commands.Command.TheVariants.{Run, Check, Make}
+
+abbrev pub view_word : View → List ℕ
+view_word view.All = codes "all"
+view_word view.Events = codes "events"
+view_word view.Calls = codes "calls"
 
 abbrev pub words_of : Command → List (List ℕ)
-words_of RunCalls = codes "run" ∷ codes "calls" ∷ []
+words_of (Run v) = codes "run" ∷ view_word v ∷ []
 words_of Check = codes "check" ∷ []
 words_of (Make n) = codes "make" ∷ decimal n ∷ []
 
@@ -17,7 +24,7 @@ pub record IsNumberOfForks (word : List ℕ) (n : ℕ) : Type 0 where
 
 -- the numbers that a command accepts
 abbrev pub IsInRange : Command → Type 0
-IsInRange RunCalls = Unit {0}
+IsInRange (Run v) = Unit {0}
 IsInRange Check = Unit {0}
 IsInRange (Make n) = (1 ≤ n) × (n ≤ 500)
 

@@ -2,11 +2,11 @@
 
 ghost use Rattle.std.specs.Prelude.{◌≡◌, IfOk, MatchResult};
 ghost use Rattle.std.specs.String.{string_bytes};
-ghost use Rattle.cyg_cli.specs.AnswerLines.{kind_word, line_of, numbered_line, verdict_line as line_of_verdict};
+ghost use Rattle.cyg_cli.specs.AnswerLines.{line_of, verdict_line as line_of_verdict};
 ghost use Rattle.cyg_cli.specs.Checks.{IsJudged, IsNotJudged};
 
 use cyg_io::{ReadAllFault, Source, read_all};
-use itoa::Buffer;
+use cyg_runs::{Refusal, numbered, refusal_line};
 use run_check::{Judged, Verdict, judge};
 use script_spec::Kind;
 use std::alloc::{AllocError, Global};
@@ -51,7 +51,13 @@ pub fn answer_line(alloc: Global, judged: &Judged) -> Result<String, AllocError>
     ensures { IfOk result (λ line. string_bytes line ≡ line_of judged.now) }
 {
     match judged {
-        Judged::ScriptFault { line, kind } => numbered(alloc, "fault", *line, kind_name(*kind)),
+        Judged::ScriptFault { line, kind } => refusal_line(
+            alloc,
+            &Refusal::Fault {
+                line: *line,
+                kind: *kind,
+            },
+        ),
         Judged::LogFault { line } => format!(in alloc; "logfault {line}\n"),
         Judged::Verdict(verdict) => verdict_line(alloc, verdict),
     }
@@ -64,40 +70,5 @@ fn verdict_line(alloc: Global, verdict: &Verdict) -> Result<String, AllocError>
     match verdict {
         Verdict::Yes => format!(in alloc; "yes\n"),
         Verdict::No { line, rule } => numbered(alloc, "no", *line, rule.as_str()),
-    }
-}
-
-// A line of a word, a number and a word.
-fn numbered(alloc: Global, first: &str, number: u32, last: &str) -> Result<String, AllocError>
-    ensures { IfOk result (λ line. string_bytes line ≡ numbered_line first.now number last.now) }
-{
-    let mut line = String::from_str(alloc, first)?;
-    line.push_str(" ")?;
-    line.push_str(Buffer::new().format(number))?;
-    line.push_str(" ")?;
-    line.push_str(last)?;
-    line.push_str("\n")?;
-    Ok(line)
-}
-
-// The name of a kind of fault.
-fn kind_name(kind: Kind) -> &'static str
-    ensures { result.now ≡ kind_word kind }
-{
-    match kind {
-        Kind::Large => "Large",
-        Kind::NoHeader => "NoHeader",
-        Kind::Unfinished => "Unfinished",
-        Kind::NotAscii => "NotAscii",
-        Kind::TooLong => "TooLong",
-        Kind::Missing => "Missing",
-        Kind::Unknown => "Unknown",
-        Kind::Words => "Words",
-        Kind::BadNumber => "BadNumber",
-        Kind::Range => "Range",
-        Kind::BadName => "BadName",
-        Kind::Twice => "Twice",
-        Kind::TooMany => "TooMany",
-        Kind::Target => "Target",
     }
 }

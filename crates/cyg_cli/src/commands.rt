@@ -2,16 +2,18 @@
 
 ghost use Rattle.std.specs.Prelude.{◌≡◌, ◌≢◌, ◌↔◌, ◌∷◌, [], ℕ, List, map, IsTrue, MatchOption};
 ghost use Rattle.std.specs.String.{string_bytes};
-ghost use Rattle.cyg_cli.specs.Commands.{Asks, IsNoCommand, IsNumberOfForks};
+ghost use Rattle.w32_base.specs.declared.entry.View.{View};
+ghost use Rattle.cyg_cli.specs.Commands.{Asks, IsNoCommand, IsNumberOfForks, view_word};
 
 use itoa::Buffer;
+use w32_base::View;
 use world_gen::MOST_FORKS;
 
 /// What the program is asked to do.
 #[derive(Clone, Copy, Debug, PartialEq, Eq)]
 pub enum Command {
-    /// `run calls`: a script is read and run, and its log is written by process.
-    RunCalls,
+    /// `run all`, `run events` and `run calls`: a script is read and run, and its log is written in this view.
+    Run(View),
     /// `check`: a script and a log of its run are read, and whether the log is one is written.
     Check,
     /// `make N`: the script of so many forks, 1 to 500, is written.
@@ -26,14 +28,26 @@ pub fn command_of(words: &Vec<String>) -> Option<Command>
         return Some(Command::Check);
     }
     if let Some(view) = word_after(words, "run") {
-        return if view == "calls" {
-            Some(Command::RunCalls)
-        } else {
-            None
-        };
+        return Some(Command::Run(view_of(view)?));
     }
     let forks = number_of_forks(word_after(words, "make")?)?;
     Some(Command::Make(forks))
+}
+
+// The view of a word.
+fn view_of(word: &str) -> Option<View>
+    ensures { MatchOption result ((v : View) → word.now ≢ view_word v) (λ v. word.now ≡ view_word v) }
+{
+    if word == "all" {
+        return Some(View::All);
+    }
+    if word == "events" {
+        return Some(View::Events);
+    }
+    if word == "calls" {
+        return Some(View::Calls);
+    }
+    None
 }
 
 // Whether this is the only word.

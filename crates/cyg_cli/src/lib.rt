@@ -3,15 +3,11 @@
 
 mod checking;
 mod commands;
-mod layer;
-mod recorder;
-mod rows;
-mod run;
 mod top;
-mod world;
 
 pub use cyg_io::{
     CleanSink, CleanSource, MemSink, MemSource, ReadFailed, Sink, Source, StdSink, StdSource,
     WriteFailed,
 };
-pub use top::{Status, TopAnswer, run_top};
+pub use cyg_runs::{RunAnswer as TopAnswer, Status};
+pub use top::run_top;

@@ -1,107 +1,62 @@
 //! The top call: from the words and the bytes of a script to the bytes of its log.
 
-ghost use Rattle.std.specs.Prelude.{◌≡◌, ◌≢◌, ◌<◌, ◌≤◌, [], ◌∷◌, ◌++◌, ◌↔◌, ◌⊎◌, List, ℕ, map, codes};
-ghost use Rattle.std.specs.Prelude.{IsTrue, IfOk, IfSome, OnOk, OnErr, MatchResult};
+ghost use Rattle.std.specs.Prelude.{◌≡◌, ◌≢◌, ◌≤◌, [], ◌↔◌, ◌⊎◌, List, ℕ, map, true, IfOk, IfSome};
 ghost use Rattle.std.specs.String.{string_bytes};
-ghost use Rattle.std.specs.List.{AllPass};
-ghost use Rattle.first_layer_spec.specs.LogText.{is_built_entry};
-ghost use Rattle.std.specs.Io.KnownBytes.{Appends};
-ghost use Rattle.cyg_io.specs.Counts.{Rose, RoseBy};
-ghost use Rattle.cyg_io.specs.Source.{DrawsUpTo};
+ghost use Rattle.w32_base.specs.declared.entry.View.{View};
 ghost use Rattle.script_spec.specs.declared.script.Script.{Script};
 ghost use Rattle.script_spec.specs.Print.{print_of};
+ghost use Rattle.script_spec.specs.Validity.{IsValid};
+ghost use Rattle.layer_spec.specs.Headline.{IsJournalOf};
+ghost use Rattle.layer_actor.specs.Built.{is_built};
 ghost use Rattle.world_gen.specs.Forks.{IsForking};
-ghost use Rattle.cyg_cli.specs.Top.{Ends, IsJournalOf, IsRead, IsRunOrShort, IsUnbuilt, refusal, status_of as status_number};
-ghost use Rattle.cyg_cli.specs.TopParts.{IsRefusal, IsLogging, IsLogOf, IsMaking};
+ghost use Rattle.cyg_io.specs.Counts.{Rose, RoseBy};
+ghost use Rattle.cyg_io.specs.Source.{DrawsUpTo};
+ghost use Rattle.cyg_runs.specs.declared.refusal.Refusal.{Refusal};
+ghost use Rattle.cyg_runs.specs.declared.refusal.Refusal.TheVariants as refusal;
+ghost use Rattle.cyg_runs.specs.Runs.{IsRefusal};
+ghost use Rattle.cyg_cli.specs.Top.{Ends, IsMaking};
+ghost use Rattle.cyg_cli.specs.Runs.{RunEnds, IsRefused, IsDeclined, IsRead, IsRunOf, IsLogged, IsRunOrShort, IsRunStatus};
 ghost use Rattle.cyg_cli.specs.AnswerLines.{answer_status};
 ghost use Rattle.cyg_cli.specs.Checks.{Checks, ComesToItsText, IsAnswerStatus, IsAnswered, IsAnsweredOrShort, IsDenied, IsTold};
 ghost use Rattle.cyg_cli.specs.Commands.{Asks, IsNoCommand};
-ghost use Rattle.cyg_cli.specs.declared.commands.Command.TheVariants.{RunCalls, Check, Make};
+ghost use Rattle.cyg_cli.specs.declared.commands.Command.TheVariants.{Run, Check, Make};
 
 use crate::checking::{NotJudged, answer_line, judge_all};
 use crate::commands::{Command, command_of};
-use crate::run::run;
-use crate::world::Ran;
 use cyg_io::{ReadAllFault, Sink, Source, read_all, write_all};
-use cyg_script::print_script;
-use first_form::{FirstForm, ReadError, read_first_form};
-use first_log_text::write_calls;
+use cyg_runs::{Refusal, Status, refuse, run_built, without_journal};
+use cyg_script::{ScriptError, print_script, read_script};
+use layer_actor::built;
 use run_check::{Judged, Verdict};
+use script_spec::{Kind, MOST_BYTES};
 use std::alloc::Global;
-use std::marker::Model;
-use w32_base::{End, Journal, Memory};
+use w32_base::{Memory, View};
 use world_gen::make;
+use world_spec::RelyGuarantee;
 
-/// How the program ends.
+use cyg_runs::RunAnswer as TopAnswer;
+
+/// Carries out a command. The words are the program's arguments after its own name: `run all`, `run events`, `run calls`,
+/// `check`, or `make N` with N from 1 to 500, in digits without a leading zero.
 ///
-/// 0: the whole log was written, or the script that was made, or `yes`. 1: a log has an event that is no step. 2: the
-/// words aren't accepted. 3: the text isn't a script, or no log of one. 4: the source had a fault. 5: the sink had a
-/// fault. 6: the journal has as many entries as the script's budget, and work remains. 7: memory ran out.
-#[derive(Clone, Copy, Debug, PartialEq, Eq)]
-pub struct Status(u8);
-
-impl Model for Status {
-    ghost use Rattle.std.specs.Prelude.{ℕ, ◌≤◌};
-
-    ghost Value = { ℕ };
-
-    ghost view = { λ s. s.0 };
-
-    ghost invariant = { λ s. s.0 ≤ 7 };
-
-    ghost inverse = { λ n. record { 0 = n } };
-}
-
-impl Status {
-    /// The number, from 0 to 7.
-    pub fn get(self) -> u8
-        ensures value { result ≡ self }
-        ensures range { self ≤ 7 }
-    {
-        self.0
-    }
-}
-
-/// The status, and the journal of the world that was run; it is empty where none was run.
-#[derive(Drop)]
-pub struct TopAnswer {
-    /// How the call ended.
-    pub status: Status,
-    /// The journal.
-    pub journal: Journal,
-}
-
-/// The most bytes that a script may have.
-const MOST_BYTES: usize = 1_048_576;
-
-fn without_journal(alloc: Global, status: Status) -> TopAnswer
-    ensures { result ≡ record { status = status; journal = [] } }
-{
-    TopAnswer {
-        status,
-        journal: Journal::from_vec(Vec::new(alloc)),
-    }
-}
-
-/// Carries out a command. The words are the program's arguments after its own name: `run calls`, `check`, or `make N`
-/// with N from 1 to 500, in digits without a leading zero.
+/// With `run` and a view the source gives a script, of at most 1,048,576 bytes. It is run on the modelled Win32 by the
+/// layer, and its log goes to the sink in that view. A text that is no script is refused with the line
+/// `fault LINE KIND` of its first fault, and a script of which a word isn't built with the line `fault 0 Unbuilt`. With
+/// `make N` the script of N forks goes to the sink, and the source isn't read.
 ///
-/// With `run calls` the source gives a script of the first form, of at most 1,048,576 bytes. It is run on the modelled
-/// Win32, and its log goes to the sink. A text that is no script of the first form is refused with the line
-/// `fault 0 Unbuilt`. With `make N` the script of N forks goes to the sink, and the source isn't read.
-///
-/// With `check` the source gives a script of the whole grammar, a line `==` and a log in view `events`, of at most
-/// 67,108,864 bytes together. To the sink goes one line: `yes` where the log's events are a run of the POSIX machine from
-/// where the script begins, `no LINE RULE` with the first event that is no step, `fault LINE KIND` with the first fault
-/// of the script, or `logfault LINE` with that of the log.
-pub fn run_top<S: Source, K: Sink>(
+/// With `check` the source gives a script, a line `==` and a log in view `events`, of at most 67,108,864 bytes together.
+/// To the sink goes one line: `yes` where the log's events are a run of the POSIX machine from where the script begins,
+/// `no LINE RULE` with the first event that is no step, `fault LINE KIND` with the first fault of the script, or
+/// `logfault LINE` with that of the log.
+pub fn run_top<P: RelyGuarantee + Drop, S: Source, K: Sink>(
     alloc: Global,
     words: &Vec<String>,
     src: &mut S,
     sink: &mut K,
 ) -> TopAnswer
+    requires serves { (script : Script) → IsValid script → is_built script ≡ true → P.serves script }
     // How it ended, with what was read, run and written.
-    ensures story { Ends (map string_bytes words.now.items)
+    ensures story { Ends (IsJournalOf P.posted_of P.goes P.opening P.slot_of P.thread_of) (map string_bytes words.now.items)
         (record {
           left = S.remaining src.old;
           read_faults = S.faults src.old;
@@ -126,13 +81,14 @@ pub fn run_top<S: Source, K: Sink>(
         × (S.given src.new ≡ S.given src.old) × (S.ends src.new ≡ S.ends src.old) }
     ensures sink_untouched { result.status ≡ 2 → (K.held sink.new ≡ K.held sink.old) × (K.faults sink.new ≡ K.faults sink.old) }
 
-    // With `run calls` 3 comes where the text was read and is no script of the first form. The refusal is what was written.
-    ensures refused { Asks (map string_bytes words.now.items) RunCalls → result.status ≡ 3
-        → IfSome (S.remaining src.old) IsUnbuilt × Appends (K.held sink.old) (K.held sink.new) refusal }
-    ensures refused_after { Asks (map string_bytes words.now.items) RunCalls → result.status ≡ 3
+    // With `run` 3 comes where the text was read and is no script, or one of which a word isn't built. The line that says
+    // so is what was written.
+    ensures refused { (v : View) → Asks (map string_bytes words.now.items) (Run v) → result.status ≡ 3
+        → IsDeclined (S.remaining src.old) (K.held sink.old) (K.held sink.new) }
+    ensures refused_after { (v : View) → Asks (map string_bytes words.now.items) (Run v) → result.status ≡ 3
         → IsRead (S.ends src.old) (S.ends src.new) (S.given src.old) (S.given src.new) }
-    ensures only_scripts_run { Asks (map string_bytes words.now.items) RunCalls
-        → IfSome (S.remaining src.old) (λ text. IsUnbuilt text → (result.status ≢ 0) × (result.status ≢ 6)) }
+    ensures only_scripts_run { (v : View) → Asks (map string_bytes words.now.items) (Run v)
+        → IfSome (S.remaining src.old) (λ text. (r : Refusal) → IsRefused text r → (result.status ≢ 0) × (result.status ≢ 6)) }
 
     // 4 comes only where the source had a fault, and nothing is then written. 5 comes only where the sink had one. 7
     // comes before the first directive.
@@ -140,14 +96,20 @@ pub fn run_top<S: Source, K: Sink>(
     ensures write_fault { result.status ≡ 5 → Rose (K.faults sink.old) (K.faults sink.new) }
     ensures no_memory { result.status ≡ 7 → (K.held sink.new ≡ K.held sink.old) × (result.journal ≡ []) }
 
-    // A journal that is answered is that of a run of the script: its entries are steps of the modelled Win32, its events
-    // steps of the POSIX machine, whose processes are those that the rows and the memory of the live processes show.
-    ensures headline { result.journal ≢ [] → IsJournalOf (S.remaining src.old) result.journal }
+    // A journal that is answered is that of a run of the script: its entries are steps of the modelled Win32 under the
+    // script's schedule, each with what the part of its thread did; its events are steps of the POSIX machine, with their
+    // evidence; and after each entry its processes are those that the rows and the memory of the live processes show.
+    ensures headline { result.journal ≢ [] → IsRunOf (IsJournalOf P.posted_of P.goes P.opening P.slot_of P.thread_of) (S.remaining src.old) result.journal }
 
-    // A script is run, unless the source or the sink has a fault or memory runs out.
-    ensures complete { Asks (map string_bytes words.now.items) RunCalls → ¬ Rose (S.faults src.old) (S.faults src.new)
+    // 0 and 6 come with the whole log of such a journal, in the view that was asked for; 6 exactly where the run ended by
+    // its budget.
+    ensures logged { (v : View) → Asks (map string_bytes words.now.items) (Run v) → (result.status ≡ 0) ⊎ (result.status ≡ 6)
+        → IsLogged (IsJournalOf P.posted_of P.goes P.opening P.slot_of P.thread_of) v (S.remaining src.old) (K.held sink.old) (K.held sink.new) result.status result.journal }
+
+    // A script is run, or its text refused, unless the source or the sink has a fault or memory runs out.
+    ensures complete { (v : View) → Asks (map string_bytes words.now.items) (Run v) → ¬ Rose (S.faults src.old) (S.faults src.new)
         → ¬ Rose (K.faults sink.old) (K.faults sink.new)
-        → IfSome (S.remaining src.old) (IsRunOrShort result.status) }
+        → IsRunStatus result.status × IfSome (S.remaining src.old) (IsRunOrShort result.status result.journal) }
 
     // A script is made, unless the sink has a fault or memory runs out. The source isn't read.
     ensures made { (n : ℕ) → Asks (map string_bytes words.now.items) (Make n) → IsMaking n (K.held sink.old) (K.held sink.new)
@@ -195,20 +157,22 @@ pub fn run_top<S: Source, K: Sink>(
         → RoseBy 1 (S.ends src.old) (S.ends src.new) }
 
     // Where a run ends with 0 or 6, the source has answered its end.
-    ensures whole_run { Asks (map string_bytes words.now.items) RunCalls → result.status ≡ 0
+    ensures whole_run { (v : View) → Asks (map string_bytes words.now.items) (Run v) → result.status ≡ 0
         → RoseBy 1 (S.ends src.old) (S.ends src.new) }
     ensures part_run { result.status ≡ 6 → RoseBy 1 (S.ends src.old) (S.ends src.new) }
 {
-    carry_out(alloc, words, src, sink)
+    carry_out::<P, S, K>(alloc, words, src, sink)
 }
 
-fn carry_out<S: Source, K: Sink>(
+// Carries out a command, where the parts serve each script of which every word is built.
+fn carry_out<P: RelyGuarantee + Drop, S: Source, K: Sink>(
     alloc: Global,
     words: &Vec<String>,
     src: &mut S,
     sink: &mut K,
 ) -> TopAnswer
-    ensures story { Ends (map string_bytes words.now.items)
+    requires serves { (script : Script) → IsValid script → is_built script ≡ true → P.serves script }
+    ensures story { Ends (IsJournalOf P.posted_of P.goes P.opening P.slot_of P.thread_of) (map string_bytes words.now.items)
         (record {
           left = S.remaining src.old;
           read_faults = S.faults src.old;
@@ -228,15 +192,22 @@ fn carry_out<S: Source, K: Sink>(
         result.status result.journal }
 {
     match command_of(words) {
-        Some(Command::RunCalls) => run_script(alloc, src, sink),
+        Some(Command::Run(view)) => run_script::<P, S, K>(alloc, view, src, sink),
         Some(Command::Check) => without_journal(alloc, check_log(alloc, src, sink)),
         Some(Command::Make(n)) => make_script(alloc, n, sink),
-        None => without_journal(alloc, Status(2)),
+        None => without_journal(alloc, Status::new(2)),
     }
 }
 
-fn run_script<S: Source, K: Sink>(alloc: Global, src: &mut S, sink: &mut K) -> TopAnswer
-    ensures story { (words : List (List ℕ)) → Asks words RunCalls → Ends words
+// Reads a script, and runs it or says why it is refused.
+fn run_script<P: RelyGuarantee + Drop, S: Source, K: Sink>(
+    alloc: Global,
+    view: View,
+    src: &mut S,
+    sink: &mut K,
+) -> TopAnswer
+    requires serves { (script : Script) → IsValid script → is_built script ≡ true → P.serves script }
+    ensures { RunEnds (IsJournalOf P.posted_of P.goes P.opening P.slot_of P.thread_of) view
         (record {
           left = S.remaining src.old;
           read_faults = S.faults src.old;
@@ -257,15 +228,23 @@ fn run_script<S: Source, K: Sink>(alloc: Global, src: &mut S, sink: &mut K) -> T
 {
     let bytes = match read_all(alloc, src, MOST_BYTES) {
         Ok(bytes) => bytes,
-        Err(ReadAllFault::Read) => return without_journal(alloc, Status(4)),
-        Err(ReadAllFault::Memory) => return without_journal(alloc, Status(7)),
-        Err(ReadAllFault::Large) => return refuse(alloc, sink),
+        Err(ReadAllFault::Read) => return without_journal(alloc, Status::new(4)),
+        Err(ReadAllFault::Memory) => return without_journal(alloc, Status::new(7)),
+        Err(ReadAllFault::Large) => return refuse_text(alloc, 0, Kind::Large, sink),
     };
-    match read_first_form(alloc, &bytes) {
-        Ok(form) => run_form(alloc, &form, sink),
-        Err(ReadError::Memory) => without_journal(alloc, Status(7)),
-        Err(ReadError::Unbuilt) => refuse(alloc, sink),
+    match read_script(alloc, &bytes) {
+        Ok(script) => run_built::<P, K>(alloc, &script, built(&script), view, sink),
+        Err(ScriptError::Fault { line, kind }) => refuse_text(alloc, line, kind, sink),
+        Err(ScriptError::Memory) => without_journal(alloc, Status::new(7)),
     }
+}
+
+// Writes the line of a fault of a text.
+fn refuse_text<K: Sink>(alloc: Global, line: u32, kind: Kind, sink: &mut K) -> TopAnswer
+    ensures { IsRefusal (refusal.Fault line kind) (K.held sink.old) (K.held sink.new) (K.faults sink.old) (K.faults sink.new)
+        result.status result.journal }
+{
+    refuse(alloc, &Refusal::Fault { line, kind }, sink)
 }
 
 fn check_log<S: Source, K: Sink>(alloc: Global, src: &mut S, sink: &mut K) -> Status
@@ -290,8 +269,8 @@ fn check_log<S: Source, K: Sink>(alloc: Global, src: &mut S, sink: &mut K) -> St
 {
     match judge_all(alloc, src) {
         Ok(judged) => answer(alloc, &judged, sink),
-        Err(NotJudged::Read) => Status(4),
-        Err(NotJudged::Memory) => Status(7),
+        Err(NotJudged::Read) => Status::new(4),
+        Err(NotJudged::Memory) => Status::new(7),
     }
 }
 
@@ -300,11 +279,11 @@ fn answer<K: Sink>(alloc: Global, judged: &Judged, sink: &mut K) -> Status
     ensures { IsTold judged.now (K.held sink.old) (K.held sink.new) (K.faults sink.old) (K.faults sink.new) result }
 {
     let Ok(line) = answer_line(alloc, judged) else {
-        return Status(7);
+        return Status::new(7);
     };
     match write_all(sink, line.as_bytes()) {
         Ok(()) => status_of_judged(judged),
-        Err(_) => Status(5),
+        Err(_) => Status::new(5),
     }
 }
 
@@ -312,9 +291,9 @@ fn status_of_judged(judged: &Judged) -> Status
     ensures { result ≡ answer_status judged.now }
 {
     match judged {
-        Judged::Verdict(Verdict::Yes) => Status(0),
-        Judged::Verdict(Verdict::No { .. }) => Status(1),
-        Judged::ScriptFault { .. } | Judged::LogFault { .. } => Status(3),
+        Judged::Verdict(Verdict::Yes) => Status::new(0),
+        Judged::Verdict(Verdict::No { .. }) => Status::new(1),
+        Judged::ScriptFault { .. } | Judged::LogFault { .. } => Status::new(3),
     }
 }
 
@@ -323,11 +302,11 @@ fn make_script<K: Sink>(alloc: Global, n: u16, sink: &mut K) -> TopAnswer
     ensures { IsMaking n (K.held sink.old) (K.held sink.new) (K.faults sink.old) (K.faults sink.new) result.status result.journal }
 {
     let Ok(text) = script_text(alloc, n) else {
-        return without_journal(alloc, Status(7));
+        return without_journal(alloc, Status::new(7));
     };
     match write_all(sink, &text) {
-        Ok(()) => without_journal(alloc, Status(0)),
-        Err(_) => without_journal(alloc, Status(5)),
+        Ok(()) => without_journal(alloc, Status::new(0)),
+        Err(_) => without_journal(alloc, Status::new(5)),
     }
 }
 
@@ -339,45 +318,4 @@ fn script_text(alloc: Global, n: u16) -> Result<Vec<u8>, Memory>
     let script = make(alloc, n)?;
     let text = print_script(alloc, &script)?;
     Ok(text)
-}
-
-fn refuse<K: Sink>(alloc: Global, sink: &mut K) -> TopAnswer
-    ensures { IsRefusal (K.held sink.old) (K.held sink.new) (K.faults sink.old) (K.faults sink.new) result.status result.journal }
-{
-    match write_all(sink, b"fault 0 Unbuilt\n") {
-        Ok(()) => without_journal(alloc, Status(3)),
-        Err(_) => without_journal(alloc, Status(5)),
-    }
-}
-
-fn run_form<K: Sink>(alloc: Global, form: &FirstForm, sink: &mut K) -> TopAnswer
-    ensures { IsLogging form.now.setup (K.held sink.old) (K.held sink.new) (K.faults sink.old) (K.faults sink.new) result.status result.journal }
-{
-    match run(alloc, &form.setup) {
-        Ok(ran) => log(ran, sink),
-        Err(_) => without_journal(alloc, Status(7)),
-    }
-}
-
-fn log<K: Sink>(ran: Ran, sink: &mut K) -> TopAnswer
-    requires { AllPass (λ e. is_built_entry e.event) ran.journal }
-    ensures { IsLogOf ran.journal ran.end (K.held sink.old) (K.held sink.new) (K.faults sink.old) (K.faults sink.new) result.status result.journal }
-{
-    let status = match write_calls(ran.journal.as_slice(), ran.end, sink) {
-        Ok(()) => status_of(ran.end),
-        Err(_) => Status(5),
-    };
-    TopAnswer {
-        status,
-        journal: ran.journal,
-    }
-}
-
-fn status_of(end: End) -> Status
-    ensures { result ≡ status_number end }
-{
-    match end {
-        End::Quiet | End::Given => Status(0),
-        End::Budget => Status(6),
-    }
 }

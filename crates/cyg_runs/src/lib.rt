@@ -8,6 +8,7 @@ mod run;
 mod running;
 mod status;
 
+pub use lines::numbered;
 pub use refusal::{Refusal, refusal_line};
 pub use run::{log, refuse, run_built, status_of};
 pub use running::{Finished, run_world};

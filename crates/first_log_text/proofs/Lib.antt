@@ -1,4 +1,0 @@
-mod Digits
-mod Lines
-mod Groups
-mod Writes

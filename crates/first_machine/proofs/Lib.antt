@@ -1,4 +1,0 @@
-pub mod Readiness
-pub mod CallSteps
-pub mod Changes
-pub mod Drives
