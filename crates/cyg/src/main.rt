@@ -1,5 +1,5 @@
-//! The program: it reads a script on standard input and writes its log on standard output, or says whether a log is
-//! that of a run, or makes a script.
+//! The program: it reads a script on standard input, runs it and writes its log on standard output, or says whether a
+//! log is that of a run, or makes a script.
 #![tactic(auto)]
 
 use clap::{Arg, ArgAction, Command};
@@ -61,11 +61,11 @@ fn print_usage<R: Eprint + AllocGlobal>(rt: &R) {
 }
 
 fn usage(alloc: Global) -> Result<String, AllocError> {
-    let view = Arg::new(alloc, "calls")
+    let view = Arg::new(alloc, "VIEW")
         .required(true)
         .action(ArgAction::Set);
     let run = Command::new(alloc, "run")
-        .about("reads a script on standard input and writes its log, by process")
+        .about("reads a script on standard input, runs it, and writes its log in a view")
         .arg(view)?;
     let check = Command::new(alloc, "check").about(
         "reads a script, a line == and a log, and says whether the log's events are steps",
@@ -76,7 +76,9 @@ fn usage(alloc: Global) -> Result<String, AllocError> {
         .arg(forks)?;
     let mut command = Command::new(alloc, "cyg")
         .about("runs process programs on a modelled Win32")
-        .after_help("The words are `run calls`, `check`, or `make N` with N from 1 to 500.")
+        .after_help(
+            "The words are `run all`, `run events`, `run calls`, `check`, or `make N` with N from 1 to 500.",
+        )
         .subcommand(run)?
         .subcommand(check)?
         .subcommand(make)?;

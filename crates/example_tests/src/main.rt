@@ -3,11 +3,13 @@
 //! that in which it runs.
 #![tactic(auto)]
 
+mod ended;
 mod outcome;
 #[cfg(test)]
 mod tests;
 
 use anyhow::Result;
+use ended::holds_with_ends;
 use outcome::{Outcome, outcome_of};
 use std::process::ExitCode;
 use std::rt::Files;
@@ -16,18 +18,21 @@ use std::{env, fs};
 /// An example came to something else.
 const DIFFERS: u8 = 1;
 
-/// The scripts that are run with the words `run calls`, each with the status of the run. The log of NAME.cyg is
-/// NAME.log.
-const RUNS: [(&str, u8); 4] = [("first", 0), ("absent", 0), ("budget", 6), ("two_forks", 3)];
+/// The scripts that are run, each with the view and the status of the run. The log of NAME.cyg is NAME.log.
+const RUNS: [(&str, &str, u8); 5] = [
+    ("first", "calls", 0),
+    ("looping", "events", 0),
+    ("ended", "calls", 0),
+    ("budget", "calls", 6),
+    ("two_forks", "calls", 3),
+];
+
+/// The scripts that are run once more with their process ended after each number of steps.
+const ENDED: [&str; 4] = ["first", "looping", "ended", "budget"];
 
 /// The texts of a script and a log that are judged with the word `check`, each with the status of the verdict. The
 /// verdict on NAME.trace is NAME.verdict.
-const TRACES: [(&str, u8); 4] = [
-    ("reaped", 0),
-    ("reaped_twice", 1),
-    ("interrupt", 0),
-    ("no_place", 3),
-];
+const TRACES: [(&str, u8); 3] = [("reaped", 0), ("reaped_twice", 1), ("interrupt", 0)];
 
 fn main(rt: HostRuntime) -> Result<ExitCode> {
     let folder = match env::args(&rt)?.nth(1) {
@@ -36,14 +41,19 @@ fn main(rt: HostRuntime) -> Result<ExitCode> {
     };
     let folder = folder.as_str();
     let mut are_same = true;
-    for (name, status) in RUNS {
+    for (name, view, status) in RUNS {
         let script = file(&rt, folder, name, "cyg")?;
         let wanted = Outcome {
             status,
             output: file(&rt, folder, name, "log")?,
         };
-        let outcome = outcome_of(rt.alloc(), &["run", "calls"], script)?;
+        let outcome = outcome_of(rt.alloc(), &["run", view], script)?;
         are_same &= report(&rt, name, outcome.is(&wanted))?;
+    }
+    for name in ENDED {
+        let script = String::from_utf8(file(&rt, folder, name, "cyg")?)?;
+        let ended = format!(in rt.alloc(); "{name} with ends")?;
+        are_same &= report(&rt, ended.as_str(), holds_with_ends(rt.alloc(), script.as_str())?)?;
     }
     let wanted = Outcome {
         status: 0,

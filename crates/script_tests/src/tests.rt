@@ -16,12 +16,12 @@ pub struct Ending {
 
 const RUN_CALLS: &[&str] = &["run", "calls"];
 
-const START: &[u8] = b"cygscript 1\nslots 1\nrows 1\n";
+pub const START: &[u8] = b"cygscript 1\nslots 1\nrows 1\n";
 
-const FIRST: &[u8] =
+pub const FIRST: &[u8] =
     b"budget 100000\nprogram main heap 0 stack 64\ngetpid\nkill 2 0\nexit 0\nschedule\nsettle\n";
 
-const FIRST_LOG: &[u8] =
+pub const FIRST_LOG: &[u8] =
     b"log calls\nhost 0 0\nget 2 pid 2\nkill 2 2 0 0\ndie 2 0 exit\ntty -\ndone quiet\n";
 
 // The bytes of two pieces.
@@ -63,44 +63,31 @@ pub fn run_words<R: AllocGlobal>(
     })
 }
 
-// Runs a script whose lines after the first three are given, and wants its status and its log.
-fn expect<R: AllocGlobal + Abort>(
+// Runs a script with the words, and wants its status and what is written.
+pub fn expect_output<R: AllocGlobal + Abort>(
     rt: &R,
-    rest: &[u8],
+    words: &[&str],
+    script: &[u8],
     status: u8,
-    log: &[u8],
+    output: &[u8],
 ) -> Result<Ending, Fail> {
     let mut sink = sink_that_fails(rt, &[])?;
-    let ending = run_words(rt, RUN_CALLS, joined(rt, START, rest)?, &[], &mut sink)?;
+    let ending = run_words(rt, words, joined(rt, script, b"")?, &[], &mut sink)?;
     assert_eq!(rt; ending.status, status);
-    assert!(rt; sink.contents() == log);
+    assert!(rt; sink.contents() == output);
     assert_eq!(rt; ending.read_faults, 0);
     assert_eq!(rt; ending.write_faults, 0);
     Ok(ending)
 }
 
-#[test]
-fn first_script_is_run(rt: HostRuntime) -> Result<(), Fail> {
-    let ending = expect(&rt, FIRST, 0, FIRST_LOG)?;
-    assert_eq!(rt; ending.entries, 14);
-    Ok(())
-}
-
-#[test]
-fn kill_of_an_absent_process(rt: HostRuntime) -> Result<(), Fail> {
-    expect(
-        &rt,
-        b"budget 500000\nprogram main heap 0 stack 64\nkill 3 0\nexit 4\nschedule\nsettle\n",
-        0,
-        b"log calls\nhost 0 4\nkill 2 3 0 ESRCH\ndie 2 4 exit\ntty -\ndone quiet\n",
-    )?;
-    expect(
-        &rt,
-        b"budget 500000\nprogram main heap 0 stack 64\nkill 1 0\nkill 4001 0\nexit 255\nschedule\nsettle\n",
-        0,
-        b"log calls\nhost 0 255\nkill 2 1 0 ESRCH\nkill 2 4001 0 ESRCH\ndie 2 255 exit\ntty -\ndone quiet\n",
-    )?;
-    Ok(())
+// The same for a script with one slot and one row whose other lines are given, in view `calls`.
+pub fn expect<R: AllocGlobal + Abort>(
+    rt: &R,
+    rest: &[u8],
+    status: u8,
+    log: &[u8],
+) -> Result<Ending, Fail> {
+    expect_output(rt, RUN_CALLS, &joined(rt, START, rest)?, status, log)
 }
 
 #[test]
@@ -109,6 +96,9 @@ fn other_words_are_refused(rt: HostRuntime) -> Result<(), Fail> {
         &[],
         &["run"],
         &["run", "quick"],
+        &["run", "All"],
+        &["run", "log"],
+        &["live", "calls"],
         &["make"],
         &["make", "0"],
         &["make", "501"],
@@ -179,82 +169,24 @@ fn scripts_are_made(rt: HostRuntime) -> Result<(), Fail> {
 }
 
 #[test]
-fn source_that_fails(rt: HostRuntime) -> Result<(), Fail> {
-    let mut sink = sink_that_fails(&rt, &[])?;
-    let ending = run_words(&rt, RUN_CALLS, joined(&rt, START, FIRST)?, &[1], &mut sink)?;
-    assert_eq!(rt; ending.status, 4);
-    assert!(rt; sink.contents().is_empty());
-    assert_eq!(rt; ending.read_faults, 1);
-    assert_eq!(rt; ending.write_faults, 0);
-    Ok(())
-}
-
-#[test]
-fn sink_that_fails_at_each_call(rt: HostRuntime) -> Result<(), Fail> {
-    for call in 1..8 {
-        let mut sink = sink_that_fails(&rt, &[call])?;
-        let ending = run_words(&rt, RUN_CALLS, joined(&rt, START, FIRST)?, &[], &mut sink)?;
-        assert_eq!(rt; ending.status, 5);
-        assert_eq!(rt; ending.write_faults, 1);
-        let written = sink.contents();
-        assert!(rt; written.len() < FIRST_LOG.len());
-        assert!(rt; FIRST_LOG.starts_with(written));
-    }
-    let mut sink = sink_that_fails(&rt, &[8])?;
-    let ending = run_words(&rt, RUN_CALLS, joined(&rt, START, FIRST)?, &[], &mut sink)?;
-    assert_eq!(rt; ending.status, 0);
-    Ok(())
-}
-
-#[test]
-fn budgets_from_one_up(rt: HostRuntime) -> Result<(), Fail> {
-    for budget in 1..14u32 {
-        let text = format!(in rt.alloc();
-            "budget {budget}\nprogram main heap 0 stack 64\ngetpid\nkill 2 0\nexit 0\nschedule\nsettle\n"
-        )?;
+fn source_that_fails_at_each_call(rt: HostRuntime) -> Result<(), Fail> {
+    for call in 1..3 {
         let mut sink = sink_that_fails(&rt, &[])?;
         let ending = run_words(
             &rt,
             RUN_CALLS,
-            joined(&rt, START, text.as_bytes())?,
-            &[],
+            joined(&rt, START, FIRST)?,
+            &[call],
             &mut sink,
         )?;
-        assert_eq!(rt; ending.status, 6);
-        assert_eq!(rt; ending.entries, budget as usize);
-        assert!(rt; sink.contents().ends_with(b"tty -\ndone budget\n"));
-    }
-    expect(
-        &rt,
-        b"budget 14\nprogram main heap 0 stack 64\ngetpid\nkill 2 0\nexit 0\nschedule\nsettle\n",
-        0,
-        FIRST_LOG,
-    )?;
-    expect(
-        &rt,
-        b"budget 1\nprogram main heap 0 stack 64\ngetpid\nkill 2 0\nexit 0\nschedule\nsettle\n",
-        6,
-        b"log calls\ntty -\ndone budget\n",
-    )?;
-    Ok(())
-}
-
-#[test]
-fn texts_that_are_refused(rt: HostRuntime) -> Result<(), Fail> {
-    let refused: &[&[u8]] = &[
-        b"",
-        b"budget 0\nprogram main heap 0 stack 64\nexit 0\nschedule\nsettle\n",
-        b"budget 500001\nprogram main heap 0 stack 64\nexit 0\nschedule\nsettle\n",
-        b"budget 5\nprogram main heap 0 stack 64\ngetpid\nschedule\nsettle\n",
-        b"budget 5\nprogram main heap 0 stack 64\nexit 256\nschedule\nsettle\n",
-        b"budget 5\nprogram main heap 0 stack 64\nkill 2 9\nexit 0\nschedule\nsettle\n",
-        b"budget 5\nprogram main heap 0 stack 64\nfork\nexit 0\nschedule\nsettle\n",
-        b"budget 5\nprogram main heap 0 stack 64\nexit 0\nschedule\nsettle",
-        b"budget 5\nprogram main heap 0 stack 64\nexit 0\nschedule\nsettle\n\n",
-    ];
-    for rest in refused {
-        let ending = expect(&rt, rest, 3, b"fault 0 Unbuilt\n")?;
+        assert_eq!(rt; ending.status, 4);
+        assert!(rt; sink.contents().is_empty());
+        assert_eq!(rt; ending.read_faults, 1);
+        assert_eq!(rt; ending.write_faults, 0);
         assert_eq!(rt; ending.entries, 0);
     }
+    let mut sink = sink_that_fails(&rt, &[])?;
+    let ending = run_words(&rt, RUN_CALLS, joined(&rt, START, FIRST)?, &[3], &mut sink)?;
+    assert_eq!(rt; ending.status, 0);
     Ok(())
 }
