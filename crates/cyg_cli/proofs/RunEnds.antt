@@ -1,10 +1,12 @@
 -- How a run ends, by what was read and what was written.
-use Rattle.std.proofs.Common.{◌≡◌, ℕ, List, [], true, false, inl, inr, ◌⊎◌, refl, sym, ◌∙◌, ap, arith}
+use Rattle.std.proofs.Common.{◌≡◌, ℕ, List, [], true, false, inl, inr, ◌⊎◌, subst, arith}
 use Rattle.std.specs.Prelude.{Bool, ◌≤◌, length}
 use Rattle.w32_base.specs.declared.entry.Entry.{Entry}
 use Rattle.w32_base.specs.declared.entry.End.{End}
 use Rattle.w32_base.specs.declared.entry.View.{View}
+use Rattle.script_spec.specs.declared.fault.Kind.{Kind}
 use Rattle.script_spec.specs.declared.script.Script.{Script}
+use Rattle.script_spec.specs.FirstFault.{IsFirstFault}
 use Rattle.script_spec.specs.Grammar.{IsScript}
 use Rattle.layer_actor.specs.Built.{is_built}
 use Rattle.cyg_io.specs.Source.{DrawsUpTo}
@@ -32,7 +34,7 @@ refuses_in_part before after r h = record { faults = h.faults; drawn = by_part h
 module _ (IsJournal : Script → List Entry → End → Type 0) (v : View) (before after : Outside) (status : ℕ)
     (entries : List Entry) where
   -- memory ran out when a text was read whole
-  pub short_ends : (text : List ℕ) → after.read_faults ≡ before.read_faults
+  short_ends : (text : List ℕ) → after.read_faults ≡ before.read_faults
       → Reads (source_of before) (source_of after) text → after.held ≡ before.held → status ≡ 7 → entries ≡ []
       → RunEnds IsJournal v before after status entries
   short_ends text faults reads held s none =
@@ -55,15 +57,34 @@ module _ (IsJournal : Script → List Entry → End → Type 0) (v : View) (befo
   log_ends script run end reads journal (inr (s, app, rose, same)) =
       LoggedInPart script end reads (rw same journal) (rw same app) rose s
 
-  -- a script was read, and run where the parts are built for it
-  pub script_ends : (script : Script) (text : List ℕ) → after.read_faults ≡ before.read_faults
+  -- a text was read that has a fault
+  pub fault_ends : (line : ℕ) (kind : Kind) (text : List ℕ) → after.read_faults ≡ before.read_faults
+      → Reads (source_of before) (source_of after) text → IsFirstFault text line kind
+      → IsRefusal (refusal.Fault line kind) before.held after.held before.write_faults after.write_faults status entries
+      → RunEnds IsJournal v before after status entries
+  fault_ends line kind text faults reads fault told =
+      refusal_ends (refusal.Fault line kind)
+      (record { faults = faults; read = inl (record { text = text; reads = reads; is = fault }) }) told
+
+  run_ends : (script : Script) (text : List ℕ) → after.read_faults ≡ before.read_faults
       → Reads (source_of before) (source_of after) text → IsScript text script
       → RunsScript (IsJournal script) (is_built script) v before.held after.held before.write_faults after.write_faults
       status entries → RunEnds IsJournal v before after status entries
-  script_ends script text faults reads spells (ran.Unbuilt no told) =
+  run_ends script text faults reads spells (ran.Unbuilt unbuilt told) =
       refusal_ends refusal.Unbuilt
-      (record { faults = faults; read = inl (record { text = text; reads = reads; is = (script, spells, no) }) }) told
-  script_ends script text faults reads spells (ran.Ran run end yes journal told) =
+      (record { faults = faults; read = inl (record { text = text; reads = reads; is = (script, spells, unbuilt) }) }) told
+  run_ends script text faults reads spells (ran.Ran run end built journal told) =
       log_ends script run end
-      (record { faults = faults; text = text; reads = reads; spells = spells; built = yes }) journal told
-  script_ends script text faults reads spells (ran.Left yes s held none) = short_ends text faults reads held s none
+      (record { faults = faults; text = text; reads = reads; spells = spells; built = built }) journal told
+  run_ends script text faults reads spells (ran.Left built s held none) = short_ends text faults reads held s none
+
+  -- a script was read, and run where the parts are built for it
+  pub script_ends : (script : Script) (text : List ℕ) → after.read_faults ≡ before.read_faults
+      → Reads (source_of before) (source_of after) text → IsScript text script → (built : Bool)
+      → built ≡ is_built script
+      → RunsScript (IsJournal script) built v before.held after.held before.write_faults after.write_faults
+      status entries → RunEnds IsJournal v before after status entries
+  script_ends script text faults reads spells built is ran =
+      run_ends script text faults reads spells
+      (subst (λ b. RunsScript (IsJournal script) b v before.held after.held before.write_faults after.write_faults
+      status entries) is ran)

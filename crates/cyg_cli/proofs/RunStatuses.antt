@@ -2,7 +2,7 @@
 use Rattle.std.proofs.Common.{◌≡◌, ◌≢◌, ℕ, Bool, true, false, List, [], Option, Some, None, inl, inr, ◌⊎◌, refl, sym, ◌∙◌}
 use Rattle.std.proofs.Common.{ap, subst, arith}
 use Rattle.std.specs.Prelude.{IfSome, ◌<◌, ◌≤◌, length, nat_lt}
-use Rattle.std.proofs.lemmas.Bool.{leb-true, ltb-true}
+use Rattle.std.proofs.lemmas.Bool.{lt-ltb}
 use Rattle.w32_base.specs.declared.entry.Entry.{Entry}
 use Rattle.w32_base.specs.declared.entry.End.{End}
 use Rattle.w32_base.specs.declared.entry.End.TheVariants.{Quiet, Given, Budget}
@@ -44,7 +44,7 @@ always Q (Some left) f = f left
 
 -- a text of too many bytes has that fault
 large : (text : List ℕ) → 1048576 < length text → fault_of text ≡ Some (0, Large)
-large text many = rw (ltb-true 1048576 (length text) many) refl
+large text many = rw (lt-ltb 1048576 (length text) many) refl
 
 -- where the source told its bytes, they are refused so
 refused_told : (left now : Option (List ℕ)) (faults faults_now given given_now ends ends_now : ℕ) (r : Refusal)
@@ -82,11 +82,11 @@ true_or_false b h k = let same : true ≡ false = sym h ∙ k in cc
 
 pub runs_or_refused : (text : List ℕ) (script : Script) (r : Refusal) → IsScript text script → is_built script ≡ true
     → IsRefused text r → ⊥
-runs_or_refused text script (refusal.Fault line kind) is yes refused =
+runs_or_refused text script (refusal.Fault line kind) is built refused =
     fault_or_none (fault_of text) (line, kind) refused (script-faultless text script is)
-runs_or_refused text script refusal.Unbuilt is yes refused =
+runs_or_refused text script refusal.Unbuilt is built refused =
     let same : refused.0 ≡ script = one_script text refused.0 script refused.1 is in
-    true_or_false (is_built script) yes (subst (λ s. is_built s ≡ false) same refused.2)
+    true_or_false (is_built script) built (subst (λ s. is_built s ≡ false) same refused.2)
 
 -- the statuses of a run whose log was written
 abbrev LogGives : ℕ → Type 0
@@ -186,7 +186,7 @@ module _ (IsJournal : Script → List Entry → End → Type 0) (v : View) (befo
   ended (Logged script end h j app s) t = h.reads.ended
   ended (LoggedInPart script end h j app up s) t = absurd (grind (arith, s, t))
 
-  run_of : (script : Script) (end : End) → ReadsBuilt (source_of before) (source_of after) script
+  abbrev run_of : (script : Script) (end : End) → ReadsBuilt (source_of before) (source_of after) script
       → IsJournal script entries end → IsRunOf IsJournal before.left entries
   run_of script end h j = record {
     script = script;
@@ -240,14 +240,14 @@ module _ (IsJournal : Script → List Entry → End → Type 0) (v : View) (befo
       → length run ≡ script.setup.limits.budget) where
     memory_short : status ≡ 7 → IfSome before.left (IsRunOrShort status entries)
     memory_short s = always (IsRunOrShort status entries) before.left
-        (λ text. record { runs = λ script is yes. inr (inr s); refuses = λ r is. inr s })
+        (λ text. record { runs = λ script is built. inr (inr s); refuses = λ r is. inr s })
 
     refused_short : (r : Refusal) → Refuses (source_of before) (source_of after) r → status ≡ 3
         → IfSome before.left (IsRunOrShort status entries)
     refused_short r h s =
         with_told (λ text. IsRefused text r) (IsRunOrShort status entries) before.left (refused_by before after r h)
         (λ text refused. record {
-        runs = λ script is yes. absurd (runs_or_refused text script r is yes refused);
+        runs = λ script is built. absurd (runs_or_refused text script r is built refused);
         refuses = λ other is. inl s;
         })
 
@@ -263,7 +263,7 @@ module _ (IsJournal : Script → List Entry → End → Type 0) (v : View) (befo
     run_short script end h j s =
         with_told (λ text. IsScript text script) (IsRunOrShort status entries) before.left
         (script_by before after script h) (λ text is. record {
-        runs = λ other spells yes.
+        runs = λ other spells built.
         subst (λ x. (status ≡ 0) ⊎ ((status ≡ 6) × (length entries ≡ x.setup.limits.budget)) ⊎ (status ≡ 7))
         (one_script text script other is spells) (by_end script end j s);
         refuses = λ r refused. absurd (runs_or_refused text script r is h.built refused);
