@@ -57,14 +57,18 @@ module _ (IsJournal : Script → List Entry → End → Type 0) (v : View) (befo
   log_ends script run end reads journal (inr (s, app, rose, same)) =
       LoggedInPart script end reads (rw same journal) (rw same app) rose s
 
-  -- a text was read that has a fault
+  -- a text was read that has a fault, and the line of that fault is what was told
   pub fault_ends : (line : ℕ) (kind : Kind) (text : List ℕ) → after.read_faults ≡ before.read_faults
-      → Reads (source_of before) (source_of after) text → IsFirstFault text line kind
-      → IsRefusal (refusal.Fault line kind) before.held after.held before.write_faults after.write_faults status entries
+      → Reads (source_of before) (source_of after) text → IsFirstFault text line kind → (l : ℕ) (k : Kind) → l ≡ line
+      → k ≡ kind
+      → IsRefusal (refusal.Fault l k) before.held after.held before.write_faults after.write_faults status entries
       → RunEnds IsJournal v before after status entries
-  fault_ends line kind text faults reads fault told =
-      refusal_ends (refusal.Fault line kind)
-      (record { faults = faults; read = inl (record { text = text; reads = reads; is = fault }) }) told
+  fault_ends line kind text faults reads fault l k same_line same_kind told =
+      refusal_ends (refusal.Fault l k)
+      (record {
+      faults = faults;
+      read = inl (record { text = text; reads = reads; is = rw (same_line, same_kind) fault });
+      }) told
 
   run_ends : (script : Script) (text : List ℕ) → after.read_faults ≡ before.read_faults
       → Reads (source_of before) (source_of after) text → IsScript text script

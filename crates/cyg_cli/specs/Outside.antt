@@ -10,12 +10,25 @@ pub record Outside : Type 0 where
   pub held : Option (List ℕ)
   pub write_faults : ℕ
 
+abbrev pub outside : Option (List ℕ) → ℕ → ℕ → ℕ → Option (List ℕ) → ℕ → Outside
+outside left read_faults given ends held write_faults = record {
+  left = left;
+  read_faults = read_faults;
+  given = given;
+  ends = ends;
+  held = held;
+  write_faults = write_faults;
+}
+
 -- what a source alone tells
 pub record Supply : Type 0 where
   pub left : Option (List ℕ)
   pub faults : ℕ
   pub given : ℕ
   pub ends : ℕ
+
+abbrev pub supply : Option (List ℕ) → ℕ → ℕ → ℕ → Supply
+supply left faults given ends = record { left = left; faults = faults; given = given; ends = ends }
 
 abbrev pub source_of : Outside → Supply
 source_of o = record { left = o.left; faults = o.read_faults; given = o.given; ends = o.ends }

@@ -4,6 +4,7 @@ ghost use Rattle.std.specs.Prelude.{◌≡◌, IfOk, MatchResult};
 ghost use Rattle.std.specs.String.{string_bytes};
 ghost use Rattle.cyg_cli.specs.AnswerLines.{line_of, verdict_line as line_of_verdict};
 ghost use Rattle.cyg_cli.specs.Checks.{IsJudged, IsNotJudged};
+ghost use Rattle.cyg_cli.specs.Outside.{supply};
 
 use cyg_io::{ReadAllFault, Source, read_all};
 use cyg_runs::{Refusal, numbered, refusal_line};
@@ -27,10 +28,10 @@ pub enum NotJudged {
 /// large; no more than one byte past them is read.
 pub fn judge_all<S: Source>(alloc: Global, src: &mut S) -> Result<Judged, NotJudged>
     ensures { MatchResult result
-        (IsJudged (record { left = S.remaining src.old; faults = S.faults src.old; given = S.given src.old; ends = S.ends src.old })
-        (record { left = S.remaining src.new; faults = S.faults src.new; given = S.given src.new; ends = S.ends src.new }))
-        (IsNotJudged (record { left = S.remaining src.old; faults = S.faults src.old; given = S.given src.old; ends = S.ends src.old })
-        (record { left = S.remaining src.new; faults = S.faults src.new; given = S.given src.new; ends = S.ends src.new })) }
+        (IsJudged (supply (S.remaining src.old) (S.faults src.old) (S.given src.old) (S.ends src.old))
+        (supply (S.remaining src.new) (S.faults src.new) (S.given src.new) (S.ends src.new)))
+        (IsNotJudged (supply (S.remaining src.old) (S.faults src.old) (S.given src.old) (S.ends src.old))
+        (supply (S.remaining src.new) (S.faults src.new) (S.given src.new) (S.ends src.new))) }
 {
     match read_all(alloc, src, MOST_BYTES) {
         Ok(text) => match judge(alloc, &text) {

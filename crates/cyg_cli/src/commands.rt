@@ -22,7 +22,8 @@ pub enum Command {
 
 /// The command that the words ask for, or none where there is no such command.
 pub fn command_of(words: &Vec<String>) -> Option<Command>
-    ensures { MatchOption result (IsNoCommand (map string_bytes words.now.items)) (Asks (map string_bytes words.now.items)) }
+    ensures { MatchOption result (IsNoCommand (map string_bytes words.now.items))
+        (Asks (map string_bytes words.now.items)) }
 {
     if is_only_word(words, "check") {
         return Some(Command::Check);

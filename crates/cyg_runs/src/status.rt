@@ -9,9 +9,9 @@ use w32_base::Journal;
 /// How a program ends that runs a script, or makes one, or judges a log of one.
 ///
 /// 0: the whole log was written, or the script that was made, or `yes`. 1: a log has an event that is no step. 2: the
-/// words aren't accepted. 3: the text isn't a script, or one of which a word isn't built, or no log of one. 4: the source
-/// had a fault. 5: the sink had a fault. 6: the journal has as many entries as the script's budget, and work remains. 7:
-/// memory ran out.
+/// words aren't accepted. 3: the text isn't a script, or one of which a word isn't built, or no log of one. 4: the
+/// source had a fault. 5: the sink had a fault. 6: the journal has as many entries as the script's budget, and work
+/// remains. 7: memory ran out.
 #[derive(Clone, Copy, Debug, PartialEq, Eq)]
 pub struct Status(u8);
 

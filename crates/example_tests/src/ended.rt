@@ -9,8 +9,8 @@ const SCHEDULE: &str = "\nschedule\n";
 /// After how many steps the process is ended at the most.
 const MOST_STEPS: u32 = 60;
 
-/// Whether the log of each run of a script holds in which, after some number of steps up to 60, the process in slot 1 is
-/// ended. It fails only for want of memory.
+/// Whether the log of each run of a script holds in which, after some number of steps up to 60, the process in slot 1
+/// is ended. It fails only for want of memory.
 pub fn holds_with_ends(alloc: Global, script: &str) -> Result<bool, AllocError> {
     let Some((front, _)) = script.split_once(SCHEDULE) else {
         return Ok(false);
