@@ -1,5 +1,5 @@
 -- Words are one command's.
-use Rattle.std.proofs.Common.{◌≡◌, ◌≤◌, ◌<◌, ℕ, List, [], ◌∷◌, refl, sym, ◌∙◌, ap, subst, arith}
+use Rattle.std.proofs.Common.{◌≡◌, ℕ, List, [], ◌∷◌, refl, sym, ◌∙◌, ap, arith}
 use Rattle.std.specs.Prelude.{codes}
 use Rattle.std.proofs.lemmas.Fmt.{decimal_injective}
 use Rattle.w32_base.specs.declared.entry.View.{View}
@@ -40,7 +40,8 @@ no_command words command none asks = none command asks.range asks.spelled
 
 pub same_make : (words : List (List ℕ)) (m n : ℕ) → Asks words (Make m) → Asks words (Make n) → m ≡ n
 same_make words m n a b =
-    decimal_injective m n (omega (arith, a.range.1)) (omega (arith, b.range.1)) (ap second_word (sym a.spelled ∙ b.spelled))
+    decimal_injective m n (omega (arith, a.range.1)) (omega (arith, b.range.1)) (ap second_word
+    (sym a.spelled ∙ b.spelled))
 
 -- a view has one word
 one_view : (v w : View) → view_word v ≡ view_word w → v ≡ w

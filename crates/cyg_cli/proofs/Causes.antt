@@ -1,9 +1,7 @@
 -- What the words and the status of the top call say, by the way in which it ended.
-use Rattle.std.proofs.Common.{◌≡◌, ◌≢◌, ℕ, refl, sym, ◌∙◌, ap, subst, List, [], ◌∷◌, Option, Some, None, arith, inl, inr, ◌⊎◌}
-use Rattle.std.specs.Prelude.{IfSome, length}
+use Rattle.std.proofs.Common.{◌≡◌, ◌≢◌, ℕ, refl, ap, subst, List, [], arith, inl, inr}
 use Rattle.w32_base.specs.declared.entry.Entry.{Entry}
 use Rattle.w32_base.specs.declared.entry.End.{End}
-use Rattle.w32_base.specs.declared.entry.End.TheVariants.{Budget}
 use Rattle.w32_base.specs.declared.entry.View.{View}
 use Rattle.script_spec.specs.declared.script.Script.{Script}
 use Rattle.world_gen.specs.Forks.{IsForking}

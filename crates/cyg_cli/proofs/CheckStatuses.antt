@@ -11,7 +11,9 @@ use Rattle.run_check.specs.Judging.{Judges}
 use Rattle.run_check.specs.OneJudgement.{one_judgement}
 use Rattle.cyg_cli.specs.Outside.{Outside, Supply, source_of}
 use Rattle.cyg_cli.specs.AnswerLines.{line_of, answer_status}
-use Rattle.cyg_cli.specs.Checks.{IsAnswer, IsOfWhole, IsOfTooMany, IsJudged, Checks, Unread, Unjudged, Untold, Told, ToldInPart, ComesTo, ComesToItsText, IsAnswered, IsDenied, IsAnsweredOrShort, IsAnswerStatus}
+use Rattle.cyg_cli.specs.Checks.{IsAnswer, IsOfWhole, IsOfTooMany, IsJudged, Checks, Unread, Unjudged, Untold, Told}
+use Rattle.cyg_cli.specs.Checks.{ToldInPart, ComesTo, ComesToItsText, IsAnswered, IsDenied, IsAnsweredOrShort}
+use Rattle.cyg_cli.specs.Checks.{IsAnswerStatus}
 
 -- a text has one answer
 pub one_answer : (text : List ℕ) (a b : Judged) → IsAnswer text a → IsAnswer text b → a ≡ b
@@ -40,7 +42,8 @@ answer_of (Some text) now faults faults_now given given_now ends ends_now j h = 
 answered_by : (before after : Outside) (j : Judged) → IsJudged (source_of before) (source_of after) j
     → IfSome before.left (λ text. IsAnswer text j)
 answered_by before after j h =
-    answer_of before.left after.left before.read_faults after.read_faults before.given after.given before.ends after.ends j h
+    answer_of before.left after.left before.read_faults after.read_faults before.given after.given before.ends
+    after.ends j h
 
 -- what holds at the answer holds at each answer to what the source told
 at_each : (P : Judged → Type 0) (left : Option (List ℕ)) (j : Judged) → IfSome left (λ text. IsAnswer text j) → P j
@@ -66,7 +69,8 @@ comes_to before after status (Untold j is u s) =
 comes_to before after status (Told j is app same s) =
     at_each (ComesTo before after status) before.left j (answered_by before after j is) (inl (s, app))
 comes_to before after status (ToldInPart j is app one s) =
-    at_each (ComesTo before after status) before.left j (answered_by before after j is) (inr (inl (s, app, rose _ _ one)))
+    at_each (ComesTo before after status) before.left j (answered_by before after j is) (inr (inl
+    (s, app, rose _ _ one)))
 
 abbrev AnswerGives : ℕ → Type 0
 AnswerGives status = (status ≡ 0) ⊎ (status ≡ 1) ⊎ (status ≡ 3)
@@ -116,7 +120,8 @@ at_five before after status (Untold j is u s) t = absurd (omega (arith, s, t))
 at_five before after status (Told j is app same s) t = absurd (never 5 (inr (omega arith)) (other_than status 5 j s t))
 at_five before after status (ToldInPart j is app one s) t = rose _ _ one
 
-pub at_seven : (before after : Outside) (status : ℕ) → Checks before after status → status ≡ 7 → after.held ≡ before.held
+pub at_seven : (before after : Outside) (status : ℕ) → Checks before after status → status ≡ 7
+    → after.held ≡ before.held
 at_seven before after status (Unread n u s) t = u.held
 at_seven before after status (Unjudged n u s) t = u.held
 at_seven before after status (Untold j is u s) t = u.held
@@ -134,13 +139,15 @@ answered before after status (Told j is app same s) gives =
 answered before after status (ToldInPart j is app one s) gives = absurd (never status (inr (omega (arith, s))) gives)
 
 -- an answer of status 1 is the judgement of a text that isn't too long
-judged_no : (left : Option (List ℕ)) (line : ℕ) (rule : _) → IfSome left (λ text. IsAnswer text (judged.Verdict (verdict.No line rule)))
+judged_no : (left : Option (List ℕ)) (line : ℕ) (rule : _)
+    → IfSome left (λ text. IsAnswer text (judged.Verdict (verdict.No line rule)))
     → IfSome left (λ text. Judges text (judged.Verdict (verdict.No line rule)))
 judged_no None line rule h = tt
 judged_no (Some text) line rule (inl (few, h)) = h
 judged_no (Some text) line rule (inr (many, h)) = cc
 
-denied_by : (before after : Outside) (status : ℕ) (h : IsAnswered before.left before.held after.held status) → answer_status h.answer ≡ 1
+denied_by : (before after : Outside) (status : ℕ) (h : IsAnswered before.left before.held after.held status)
+    → answer_status h.answer ≡ 1
     → IsDenied before.left before.held after.held
 denied_by before after status h one = by_answer h.answer refl one
   where
@@ -155,7 +162,8 @@ denied_by before after status h one = by_answer h.answer refl one
       text = judged_no before.left line rule (subst (λ j. IfSome before.left (λ text. IsAnswer text j)) is h.text);
     }
 
-pub denied : (before after : Outside) (status : ℕ) → Checks before after status → status ≡ 1 → IsDenied before.left before.held after.held
+pub denied : (before after : Outside) (status : ℕ) → Checks before after status → status ≡ 1
+    → IsDenied before.left before.held after.held
 denied before after status h one =
     let a = answered before after status h (inr (inl one)) in
     denied_by before after status a (sym a.status_is ∙ one)
@@ -201,7 +209,8 @@ asked before after status (Told j is app same s) = up_to (source_of before) (sou
 asked before after status (ToldInPart j is app one s) = up_to (source_of before) (source_of after) j is
 
 -- where the log's events have a verdict, the text was read whole
-read_whole : (before after : Supply) (j : Judged) → IsJudged before after j → (answer_status j ≡ 0) ⊎ (answer_status j ≡ 1)
+read_whole : (before after : Supply) (j : Judged) → IsJudged before after j
+    → (answer_status j ≡ 0) ⊎ (answer_status j ≡ 1)
     → RoseBy 1 before.ends after.ends
 read_whole before after j h verdict = by_part h.read
   where

@@ -1,5 +1,5 @@
 -- A journal that ends by the budget has as many entries as that.
-use Rattle.std.proofs.Common.{◌≡◌, ℕ, List, length, sym, ◌∙◌, ap}
+use Rattle.std.proofs.Common.{◌≡◌, ℕ, List, length, ◌∙◌, ap}
 use Rattle.w32_base.specs.declared.call.Call.{Call}
 use Rattle.w32_base.specs.declared.call.Reply.{Reply}
 use Rattle.w32_base.specs.declared.entry.Entry.{Entry}

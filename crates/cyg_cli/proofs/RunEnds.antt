@@ -1,6 +1,6 @@
 -- How a run ends, by what was read and what was written.
-use Rattle.std.proofs.Common.{◌≡◌, ℕ, List, [], true, false, inl, inr, ◌⊎◌, subst, arith}
-use Rattle.std.specs.Prelude.{Bool, ◌≤◌, length}
+use Rattle.std.proofs.Common.{◌≡◌, ℕ, List, [], inl, inr, ◌⊎◌, subst, arith}
+use Rattle.std.specs.Prelude.{Bool, length}
 use Rattle.w32_base.specs.declared.entry.Entry.{Entry}
 use Rattle.w32_base.specs.declared.entry.End.{End}
 use Rattle.w32_base.specs.declared.entry.View.{View}
@@ -15,7 +15,7 @@ use Rattle.cyg_runs.specs.declared.refusal.Refusal.TheVariants as refusal
 use Rattle.cyg_runs.specs.Runs.{IsRefusal, IsLogOf, RunsScript}
 use Rattle.cyg_runs.specs.Runs as ran
 use Rattle.cyg_cli.specs.Outside.{Outside, Supply, source_of}
-use Rattle.cyg_cli.specs.Runs.{IsRefused, Reads, ReadsRefused, ReadsTooMany, Refuses, ReadsBuilt, IsReadInPart, RunEnds}
+use Rattle.cyg_cli.specs.Runs.{Reads, ReadsRefused, ReadsTooMany, Refuses, ReadsBuilt, IsReadInPart, RunEnds}
 use Rattle.cyg_cli.specs.Runs.{NoMemory, Refused, RefusedInPart, Logged, LoggedInPart}
 
 -- no more than one byte past the limit was read
@@ -66,8 +66,8 @@ module _ (IsJournal : Script → List Entry → End → Type 0) (v : View) (befo
   fault_ends line kind text faults reads fault l k same_line same_kind told =
       refusal_ends (refusal.Fault l k)
       (record {
-      faults = faults;
-      read = inl (record { text = text; reads = reads; is = rw (same_line, same_kind) fault });
+        faults = faults;
+        read = inl (record { text = text; reads = reads; is = rw (same_line, same_kind) fault });
       }) told
 
   run_ends : (script : Script) (text : List ℕ) → after.read_faults ≡ before.read_faults
@@ -76,7 +76,15 @@ module _ (IsJournal : Script → List Entry → End → Type 0) (v : View) (befo
       status entries → RunEnds IsJournal v before after status entries
   run_ends script text faults reads spells (ran.Unbuilt unbuilt told) =
       refusal_ends refusal.Unbuilt
-      (record { faults = faults; read = inl (record { text = text; reads = reads; is = (script, spells, unbuilt) }) }) told
+      (record {
+        faults = faults;
+        read = inl (record {
+          text = text;
+          reads = reads;
+          is =
+              (script, spells, unbuilt);
+        });
+      }) told
   run_ends script text faults reads spells (ran.Ran run end built journal told) =
       log_ends script run end
       (record { faults = faults; text = text; reads = reads; spells = spells; built = built }) journal told

@@ -1,7 +1,8 @@
 -- What each status of a run says.
-use Rattle.std.proofs.Common.{◌≡◌, ◌≢◌, ℕ, Bool, true, false, List, [], Option, Some, None, inl, inr, ◌⊎◌, refl, sym, ◌∙◌}
-use Rattle.std.proofs.Common.{ap, subst, arith}
-use Rattle.std.specs.Prelude.{IfSome, ◌<◌, ◌≤◌, length, nat_lt}
+use Rattle.std.proofs.Common.{◌≡◌, ◌≢◌, ℕ, Bool, true, false, List, [], Option, Some, None, inl, inr, ◌⊎◌, refl, sym}
+use Rattle.std.proofs.Common.{◌∙◌}
+use Rattle.std.proofs.Common.{subst, arith}
+use Rattle.std.specs.Prelude.{IfSome, ◌<◌, ◌≤◌, length}
 use Rattle.std.proofs.lemmas.Bool.{lt-ltb}
 use Rattle.w32_base.specs.declared.entry.Entry.{Entry}
 use Rattle.w32_base.specs.declared.entry.End.{End}
@@ -19,8 +20,8 @@ use Rattle.cyg_io.specs.Counts.{Rose, RoseBy}
 use Rattle.cyg_runs.specs.declared.refusal.Refusal.{Refusal}
 use Rattle.cyg_runs.specs.declared.refusal.Refusal.TheVariants as refusal
 use Rattle.cyg_runs.specs.Runs.{status_of}
-use Rattle.cyg_cli.specs.Outside.{Outside, Supply, source_of}
-use Rattle.cyg_cli.specs.Runs.{IsRefused, Reads, ReadsRefused, ReadsTooMany, Refuses, ReadsBuilt, RunEnds}
+use Rattle.cyg_cli.specs.Outside.{Outside, source_of}
+use Rattle.cyg_cli.specs.Runs.{IsRefused, ReadsRefused, ReadsTooMany, Refuses, ReadsBuilt, RunEnds}
 use Rattle.cyg_cli.specs.Runs.{Unread, NoMemory, Refused, RefusedInPart, Logged, LoggedInPart}
 use Rattle.cyg_cli.specs.Runs.{IsDeclined, IsRead, IsRunOf, IsLogged, IsRunOrShort, IsRunStatus}
 
@@ -34,7 +35,8 @@ of_told P None text e p = tt
 of_told P (Some left) text e p = subst P e p
 
 -- what follows of a text's property follows of that of what the source told
-with_told : (P Q : List ℕ → Type 0) (o : Option (List ℕ)) → IfSome o P → ((text : List ℕ) → P text → Q text) → IfSome o Q
+with_told : (P Q : List ℕ → Type 0) (o : Option (List ℕ)) → IfSome o P → ((text : List ℕ) → P text → Q text)
+    → IfSome o Q
 with_told P Q None p f = tt
 with_told P Q (Some left) p f = f left p
 
@@ -66,7 +68,8 @@ refused_told (Some text) now faults faults_now given given_now ends ends_now r h
 refused_by : (before after : Outside) (r : Refusal) → Refuses (source_of before) (source_of after) r
     → IfSome before.left (λ text. IsRefused text r)
 refused_by before after r h =
-    refused_told before.left after.left before.read_faults after.read_faults before.given after.given before.ends after.ends
+    refused_told before.left after.left before.read_faults after.read_faults before.given after.given before.ends
+    after.ends
     r h
 
 script_by : (before after : Outside) (script : Script) → ReadsBuilt (source_of before) (source_of after) script
@@ -135,7 +138,8 @@ module _ (IsJournal : Script → List Entry → End → Type 0) (v : View) (befo
       → IsRead before.ends after.ends before.given after.given
   is_read r h = by_part h.read
     where
-      by_part : ReadsRefused (source_of before) (source_of after) r ⊎ ReadsTooMany (source_of before) (source_of after) r
+      by_part : ReadsRefused (source_of before) (source_of after) r ⊎ ReadsTooMany (source_of before)
+          (source_of after) r
           → IsRead before.ends after.ends before.given after.given
       by_part (inl x) = inl x.reads.ended
       by_part (inr x) = inr x.drawn.count
@@ -247,8 +251,8 @@ module _ (IsJournal : Script → List Entry → End → Type 0) (v : View) (befo
     refused_short r h s =
         with_told (λ text. IsRefused text r) (IsRunOrShort status entries) before.left (refused_by before after r h)
         (λ text refused. record {
-        runs = λ script is built. absurd (runs_or_refused text script r is built refused);
-        refuses = λ other is. inl s;
+          runs = λ script is built. absurd (runs_or_refused text script r is built refused);
+          refuses = λ other is. inl s;
         })
 
     by_end : (script : Script) (end : End) → IsJournal script entries end → status ≡ status_of end
@@ -263,10 +267,10 @@ module _ (IsJournal : Script → List Entry → End → Type 0) (v : View) (befo
     run_short script end h j s =
         with_told (λ text. IsScript text script) (IsRunOrShort status entries) before.left
         (script_by before after script h) (λ text is. record {
-        runs = λ other spells built.
-        subst (λ x. (status ≡ 0) ⊎ ((status ≡ 6) × (length entries ≡ x.setup.limits.budget)) ⊎ (status ≡ 7))
-        (one_script text script other is spells) (by_end script end j s);
-        refuses = λ r refused. absurd (runs_or_refused text script r is h.built refused);
+          runs = λ other spells built.
+              subst (λ x. (status ≡ 0) ⊎ ((status ≡ 6) × (length entries ≡ x.setup.limits.budget)) ⊎ (status ≡ 7))
+              (one_script text script other is spells) (by_end script end j s);
+          refuses = λ r refused. absurd (runs_or_refused text script r is h.built refused);
         })
 
     log_status : (end : End) → status ≡ status_of end → IsRunStatus status

@@ -6,11 +6,13 @@ use Rattle.std.specs.Str.Parse.{ParsesUnsigned}
 use Rattle.cyg_cli.specs.Commands.{IsNumberOfForks}
 
 -- what is read of a word that spells a number from 1 to 500
-pub parsed : {E : Type 0} (word : List ℕ) (n : ℕ) (r : Result ℕ E) → IsNumberOfForks word n → ParsesUnsigned 16 10 word r → r ≡ Ok n
+pub parsed : {E : Type 0} (word : List ℕ) (n : ℕ) (r : Result ℕ E) → IsNumberOfForks word n
+    → ParsesUnsigned 16 10 word r → r ≡ Ok n
 parsed word n r is parses = parse-decimal 16 n word r (omega (arith, is.most)) (omega (arith, is.most)) is.text parses
 
 -- a list of two is its two items
-pub two_of : {X : Type 0} (xs : List X) (a b : X) → 2 ≤ length xs → length xs < 3 → a ≡ get_or xs 0 a → b ≡ get_or xs 1 b
+pub two_of : {X : Type 0} (xs : List X) (a b : X) → 2 ≤ length xs → length xs < 3 → a ≡ get_or xs 0 a
+    → b ≡ get_or xs 1 b
     → xs ≡ a ∷ b ∷ []
 two_of [] a b least most first second = absurd (omega (arith, least))
 two_of (x ∷ []) a b least most first second = absurd (omega (arith, least))

@@ -22,7 +22,8 @@ pub record IsUntouched (before after : Outside) : Type 0 where
   pub given : after.given ≡ before.given
   pub ends : after.ends ≡ before.ends
 
--- The ways in which the top call ends, with its status and its journal. `IsJournal` says which entries, with an end, are
+-- The ways in which the top call ends, with its status and its journal. `IsJournal` says which entries, with an end,
+-- are
 -- the journal of a run of a script.
 pub data Ends (IsJournal : Script → List Entry → End → Type 0) (words : List (List ℕ)) (before after : Outside)
     (status : ℕ) (entries : List Entry) : Type 0 where
@@ -52,5 +53,5 @@ abbrev pub IsMaking : ℕ → Option (List ℕ) → Option (List ℕ) → ℕ �
 IsMaking n before after faults now status entries =
     ((script : Script) × IsForking n script × (status ≡ 0) × Appends before after (print_of script) × (entries ≡ []))
     ⊎ ((script : Script) × IsForking n script × (status ≡ 5) × AppendsPart before after (print_of script)
-        × Rose faults now × (entries ≡ []))
+    × Rose faults now × (entries ≡ []))
     ⊎ ((status ≡ 7) × (after ≡ before) × (now ≡ faults) × (entries ≡ []))

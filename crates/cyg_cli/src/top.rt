@@ -1,6 +1,6 @@
 //! The top call: from the words and the bytes of a script to the bytes of its log.
 
-ghost use Rattle.std.specs.Prelude.{◌≡◌, ◌≢◌, ◌≤◌, [], ◌↔◌, ◌⊎◌, List, ℕ, map, true, IfOk, IfSome};
+ghost use Rattle.std.specs.Prelude.{◌≡◌, ◌≢◌, ◌≤◌, [], ◌↔◌, ◌⊎◌, ℕ, map, true, IfOk, IfSome};
 ghost use Rattle.std.specs.String.{string_bytes};
 ghost use Rattle.w32_base.specs.declared.entry.View.{View};
 ghost use Rattle.script_spec.specs.declared.script.Script.{Script};
@@ -28,7 +28,7 @@ ghost use Rattle.cyg_cli.specs.declared.commands.Command.TheVariants.{Run, Check
 use crate::checking::{NotJudged, answer_line, judge_all};
 use crate::commands::{Command, command_of};
 use cyg_io::{ReadAllFault, Sink, Source, read_all, write_all};
-use cyg_runs::{Refusal, Status, refuse, run_built, without_journal};
+use cyg_runs::{Refusal, RunAnswer as TopAnswer, Status, refuse, run_built, without_journal};
 use cyg_script::{ScriptError, print_script, read_script};
 use layer_actor::{Actor, built};
 use run_check::{Judged, Verdict};
@@ -37,8 +37,6 @@ use std::alloc::Global;
 use w32_base::{Memory, View};
 use world_gen::make;
 use world_spec::RelyGuarantee;
-
-use cyg_runs::RunAnswer as TopAnswer;
 
 /// Carries out a command. The words are the program's arguments after its own name: `run all`, `run events`,
 /// `run calls`, `check`, or `make N` with N from 1 to 500, in digits without a leading zero.
@@ -49,9 +47,9 @@ use cyg_runs::RunAnswer as TopAnswer;
 /// `make N` the script of N forks goes to the sink, and the source isn't read.
 ///
 /// With `check` the source gives a script, a line `==` and a log in view `events`, of at most 67,108,864 bytes
-/// together. To the sink goes one line: `yes` where the log's events are a run of the POSIX machine from where the script
-/// begins, `no LINE RULE` with the first event that is no step, `fault LINE KIND` with the first fault of the script, or
-/// `logfault LINE` with that of the log.
+/// together. To the sink goes one line: `yes` where the log's events are a run of the POSIX machine from where the
+/// script begins, `no LINE RULE` with the first event that is no step, `fault LINE KIND` with the first fault of the
+/// script, or `logfault LINE` with that of the log.
 pub fn run_top<S: Source, K: Sink>(
     alloc: Global,
     words: &Vec<String>,
@@ -61,9 +59,9 @@ pub fn run_top<S: Source, K: Sink>(
     // How it ended, with what was read, run and written.
     ensures story { Ends IsLayerJournal (map string_bytes words.now.items)
         (outside (S.remaining src.old) (S.faults src.old) (S.given src.old) (S.ends src.old)
-            (K.held sink.old) (K.faults sink.old))
+        (K.held sink.old) (K.faults sink.old))
         (outside (S.remaining src.new) (S.faults src.new) (S.given src.new) (S.ends src.new)
-            (K.held sink.new) (K.faults sink.new))
+        (K.held sink.new) (K.faults sink.new))
         result.status result.journal }
 
     // 2 is the answer exactly where the words aren't accepted. Nothing is then read or written.
@@ -121,9 +119,9 @@ pub fn run_top<S: Source, K: Sink>(
     // world, and reads at most one byte past the limit of 67,108,864.
     ensures checked { Asks (map string_bytes words.now.items) Check → ComesToItsText
         (outside (S.remaining src.old) (S.faults src.old) (S.given src.old) (S.ends src.old)
-            (K.held sink.old) (K.faults sink.old))
+        (K.held sink.old) (K.faults sink.old))
         (outside (S.remaining src.new) (S.faults src.new) (S.given src.new) (S.ends src.new)
-            (K.held sink.new) (K.faults sink.new))
+        (K.held sink.new) (K.faults sink.new))
         result.status }
     ensures unrun { Asks (map string_bytes words.now.items) Check → result.journal ≡ [] }
     ensures asked { Asks (map string_bytes words.now.items) Check
@@ -164,9 +162,9 @@ fn carry_out<P: RelyGuarantee + Drop, S: Source, K: Sink>(
     ensures story { Ends (IsJournalOf P.posted_of P.goes P.opening P.slot_of P.thread_of)
         (map string_bytes words.now.items)
         (outside (S.remaining src.old) (S.faults src.old) (S.given src.old) (S.ends src.old)
-            (K.held sink.old) (K.faults sink.old))
+        (K.held sink.old) (K.faults sink.old))
         (outside (S.remaining src.new) (S.faults src.new) (S.given src.new) (S.ends src.new)
-            (K.held sink.new) (K.faults sink.new))
+        (K.held sink.new) (K.faults sink.new))
         result.status result.journal }
 {
     match command_of(words) {
@@ -187,9 +185,9 @@ fn run_script<P: RelyGuarantee + Drop, S: Source, K: Sink>(
     requires serves { (script : Script) → IsValid script → is_built script ≡ true → P.serves script }
     ensures { RunEnds (IsJournalOf P.posted_of P.goes P.opening P.slot_of P.thread_of) view
         (outside (S.remaining src.old) (S.faults src.old) (S.given src.old) (S.ends src.old)
-            (K.held sink.old) (K.faults sink.old))
+        (K.held sink.old) (K.faults sink.old))
         (outside (S.remaining src.new) (S.faults src.new) (S.given src.new) (S.ends src.new)
-            (K.held sink.new) (K.faults sink.new))
+        (K.held sink.new) (K.faults sink.new))
         result.status result.journal }
 {
     let bytes = match read_all(alloc, src, MOST_BYTES) {
@@ -216,9 +214,9 @@ fn refuse_text<K: Sink>(alloc: Global, line: u32, kind: Kind, sink: &mut K) -> T
 fn check_log<S: Source, K: Sink>(alloc: Global, src: &mut S, sink: &mut K) -> Status
     ensures { Checks
         (outside (S.remaining src.old) (S.faults src.old) (S.given src.old) (S.ends src.old)
-            (K.held sink.old) (K.faults sink.old))
+        (K.held sink.old) (K.faults sink.old))
         (outside (S.remaining src.new) (S.faults src.new) (S.given src.new) (S.ends src.new)
-            (K.held sink.new) (K.faults sink.new))
+        (K.held sink.new) (K.faults sink.new))
         result }
 {
     match judge_all(alloc, src) {

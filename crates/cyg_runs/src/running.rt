@@ -1,6 +1,6 @@
 //! Runs of a script on a world.
 
-ghost use Rattle.std.specs.Prelude.{◌≡◌, ◌≤◌, IfOk};
+ghost use Rattle.std.specs.Prelude.{IfOk};
 ghost use Rattle.script_spec.specs.Validity.{IsValid};
 ghost use Rattle.layer_spec.specs.Headline.{IsJournalOf};
 

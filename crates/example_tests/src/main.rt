@@ -53,7 +53,11 @@ fn main(rt: HostRuntime) -> Result<ExitCode> {
     for name in ENDED {
         let script = String::from_utf8(file(&rt, folder, name, "cyg")?)?;
         let ended = format!(in rt.alloc(); "{name} with ends")?;
-        are_same &= report(&rt, ended.as_str(), holds_with_ends(rt.alloc(), script.as_str())?)?;
+        are_same &= report(
+            &rt,
+            ended.as_str(),
+            holds_with_ends(rt.alloc(), script.as_str())?,
+        )?;
     }
     let wanted = Outcome {
         status: 0,

@@ -130,7 +130,8 @@ fn other_words_are_refused(rt: HostRuntime) -> Result<(), Fail> {
 
 // What `make 2` writes.
 const TWO_FORKS: &[u8] =
-    b"cygscript 1\nslots 2\nrows 3\nbudget 500000\nprogram main heap 64 stack 64\nfork\njzero r0 7\nwait r0 0\nfork\njzero r0 7\nwait r0 0\nexit 0\ngetpid\nexit r0\nschedule\nsettle\n";
+    b"cygscript 1\nslots 2\nrows 3\nbudget 500000\nprogram main heap 64 stack 64\nfork\njzero r0 7\nwait r0 0\n\
+    fork\njzero r0 7\nwait r0 0\nexit 0\ngetpid\nexit r0\nschedule\nsettle\n";
 
 #[test]
 fn scripts_are_made(rt: HostRuntime) -> Result<(), Fail> {

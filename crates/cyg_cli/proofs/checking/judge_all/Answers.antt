@@ -6,5 +6,10 @@ returns-in-Err-Large g c =
     let is = ap Err c.in-Err-Large.field-0-is in
     record {
       faults = c.in-Err-Large.ensures.no_fault_large is;
-      read = inr (record { drawn = c.in-Err-Large.ensures.large is; ends = c.in-Err-Large.ensures.not_ended; answer = refl });
+      read = inr (record {
+        drawn = c.in-Err-Large.ensures.large is;
+        ends = c.in-Err-Large.ensures.not_ended;
+        answer =
+            refl;
+      });
     }

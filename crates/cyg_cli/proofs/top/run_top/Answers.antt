@@ -1,4 +1,4 @@
-use Rattle.std.proofs.Common.{inl, inr, ap}
+use Rattle.std.proofs.Common.{inl, ap}
 use Rattle.cyg_cli.proofs.Causes.{run_told, check_told, made_told, other_told, untouched, journal_told, denied_told}
 use Rattle.cyg_cli.proofs.Causes.{at_four, at_five, at_six, at_seven}
 use Rattle.cyg_cli.proofs.CheckStatuses as check
