@@ -35,12 +35,11 @@ use Rattle.layer_actor.specs.declared.actor.Actor.{Actor}
 use Rattle.layer_actor.specs.declared.actor.Serves.{Serves}
 use Rattle.layer_actor.specs.declared.actor.Serves.TheVariants as serves
 use Rattle.layer_actor.specs.declared.idle.Idle.TheVariants as idle
-use Rattle.layer_actor.specs.Actor.{first_identity, main_opened, thread_of, actor_posted}
+use Rattle.layer_actor.specs.Actor.{main_opened, thread_of, actor_posted}
 use Rattle.layer_actor.specs.ActorClause.{ActorGoes, actor_slot, actor_thread, ServesClause, ActorClause, actor_of}
 use Rattle.layer_actor.specs.ActorClause.{resting_of, main-piece, starter-piece, other-piece}
 use Rattle.layer_actor.specs.ActorLaws as laws
 use Rattle.layer_actor.specs.Built.{is_built}
-use Rattle.layer_actor.specs.LookClause.{IsMainOf}
 use Rattle.layer_actor.specs.MainClause.{MainClause}
 use Rattle.layer_actor.specs.MainGoes.{main_posted, main_thread, MainGoes}
 use Rattle.layer_actor.specs.MainTurns.{main-keeps}
@@ -93,30 +92,29 @@ above_zero (suc slot) is = omega arith
 
 -- At the opening each thread's clause holds.
 module _ {A : Type 0} (script : Script) (now : Moment A) (opens : IsOpening script now.win32)
-    (posix : now.posix ≡ opening_of script)
-    (opens_main : (slot w : ℕ) → 1 ≤ slot → number_in now.win32 slot ≡ Some w → IsMainOf first_identity now.win32 w)
-  where
-    -- what serves a thread that was just made, by whether it is the host's, its starter, and a main thread
-    opened_clause : (slot w : ℕ) → number_in now.win32 slot ≡ Some w → (thread : ℕ) (host one main : Bool)
-        → nat_eq slot 0 ≡ host
-        → ServesClause script [] now w (if host
-        then (if one then serves.Starter starter.Opening else serves.Other thread idle.Opening)
-        else (if main then serves.Main main_opened else serves.Other thread idle.Opening))
-    opened_clause slot w number thread true true main host =
-        starter-begins script now opens posix w
-        (subst (λ k. number_in now.win32 k ≡ Some w) (eqb-true slot 0 host) number)
-    opened_clause slot w number thread true false main host = tt
-    opened_clause slot w number thread false one true host =
-        let from = above_zero slot host in
-        (λ is. opens_main slot w from number, start-begins script now opens posix NoneMade slot w from number)
-    opened_clause slot w number thread false one false host = tt
+    (posix : now.posix ≡ opening_of script) where
+  -- what serves a thread that was just made, by whether it is the host's, its starter, and a main thread
+  opened_clause : (slot w : ℕ) → number_in now.win32 slot ≡ Some w → (thread : ℕ) (host one main : Bool)
+      → nat_eq slot 0 ≡ host
+      → ServesClause script [] now w (if host
+      then (if one then serves.Starter starter.Opening else serves.Other thread idle.Opening)
+      else (if main then serves.Main main_opened else serves.Other thread idle.Opening))
+  opened_clause slot w number thread true true main host =
+      starter-begins script now opens posix w
+      (subst (λ k. number_in now.win32 k ≡ Some w) (eqb-true slot 0 host) number)
+  opened_clause slot w number thread true false main host = tt
+  opened_clause slot w number thread false one true host =
+      let from = above_zero slot host in
+      let main = opens-main script now.win32 opens slot w from number in
+      (λ is. main.1, start-begins script now opens posix NoneMade slot w from number)
+  opened_clause slot w number thread false one false host = tt
 
-    pub actor-begins : (slot t w : ℕ) (p : Actor) → number_in now.win32 slot ≡ Some w
-        → IsOpened actor_posted ActorGoes laws.IsOpened actor_slot actor_thread slot t p → ActorClause script [] now w p
-    actor-begins slot t w p number opened =
-        subst (ActorClause script [] now w) (sym opened.opened)
-        (opened_clause p.slot w (ap (number_in now.win32) opened.its_slot ∙ number) (thread_of p.serves)
-        (nat_eq p.slot 0) (nat_eq (thread_of p.serves) 1) (nat_eq (thread_of p.serves) 0) refl)
+  pub actor-begins : (slot t w : ℕ) (p : Actor) → number_in now.win32 slot ≡ Some w
+      → IsOpened actor_posted ActorGoes laws.IsOpened actor_slot actor_thread slot t p → ActorClause script [] now w p
+  actor-begins slot t w p number opened =
+      subst (ActorClause script [] now w) (sym opened.opened)
+      (opened_clause p.slot w (ap (number_in now.win32) opened.its_slot ∙ number) (thread_of p.serves)
+      (nat_eq p.slot 0) (nat_eq (thread_of p.serves) 1) (nat_eq (thread_of p.serves) 0) refl)
 
 -- An actor gives all that it owes.
 pub actor_owes : (script : Script) → IsValid script → is_built script ≡ true
@@ -124,8 +122,7 @@ pub actor_owes : (script : Script) → IsValid script → is_built script ≡ tr
 actor_owes script valid built = record {
   keeps = actor-keeps script (registers-valid script valid) (main-keeps script valid built);
   begins = λ now opens posix slot t w part number opened.
-      actor-begins script now opens posix
-      (λ slot w from number. (opens-main script now.win32 opens slot w from number).1) slot t w part number opened;
+      actor-begins script now opens posix slot t w part number opened;
   opens = λ step seen slot t w part dead number opened.
       absurd (none-comes script built (registers-valid script valid) step seen slot w number dead);
 }

@@ -26,7 +26,8 @@ abbrev FairGet : (behind row : ℕ) → GetStep → Reply → Own → OwnTurn Ge
 FairGet behind row s r own t =
     IsFair (get_rank_by behind) (get_step_posted row s) (get_rank_by behind s) r own t
 
-answers_is_fair : (behind row : ℕ) (a : Asked) (s : GetStep) (r : Reply) (own : Own) (value : ℕ) → 1 < get_rank_by behind s
+answers_is_fair : (behind row : ℕ) (a : Asked) (s : GetStep) (r : Reply) (own : Own) (value : ℕ)
+    → 1 < get_rank_by behind s
     → FairGet behind row s r own (get_answers row a own value)
 answers_is_fair behind row a s r own value high =
     answers_fair (get_rank_by behind) (get_step_posted row s) (get_rank_by behind s) r get.Rest get.Done own (pos value)
