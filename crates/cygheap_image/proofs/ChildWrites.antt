@@ -162,7 +162,8 @@ rows_cleared h legal =
     ∙ changed_children h []
 
 pub child_put : (bytes : List ℕ) (c : ℕ) → IsHeapBytes bytes → child_count_in bytes < 32
-    → with_piece (with_piece bytes (160 + 4 * child_count_in bytes) (child_bytes (record { number = c; noted = false })))
+    → with_piece (with_piece bytes (160 + 4 * child_count_in bytes)
+    (child_bytes (record { number = c; noted = false })))
     156 (four_bytes (child_count_in bytes + 1))
     ≡ heap_bytes (with_child (fields_in bytes) c)
 child_put bytes c kept room =

@@ -26,7 +26,8 @@ pub all_dropped : (h : HeapFields) (k : ℕ) → length h.actions ≡ 31 → k �
 unfolding some_dropped
 all_dropped h k size all =
     let few : length h.actions ≤ k = omega arith in
-    ap (λ (xs : List Action). record h { actions = map without_handler xs ++ drop k h.actions }) (take_all k h.actions few)
+    ap (λ (xs : List Action). record h { actions = map without_handler xs ++ drop k h.actions })
+    (take_all k h.actions few)
     ∙ ap (λ (xs : List Action). record h { actions = map without_handler h.actions ++ xs }) (drop_all k h.actions few)
     ∙ ap (λ (xs : List Action). record h { actions = xs }) (append-nil (map without_handler h.actions))
 

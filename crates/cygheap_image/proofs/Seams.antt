@@ -96,7 +96,8 @@ with_piece-part bytes place k piece part size is =
 -- zeros over four bytes, which then go behind all that follows
 pub without_four-rotated : (bytes now : List ℕ) (place : ℕ) (turned : List ℕ) → place + 4 ≤ length bytes
     → now ≡ with_piece bytes place (replicate 4 0)
-    → turned ≡ drop 4 (take (length now - place) (drop place now)) ++ take 4 (take (length now - place) (drop place now))
+    → turned ≡ drop 4 (take (length now - place) (drop place now))
+    ++ take 4 (take (length now - place) (drop place now))
     → put_mid place (length now - place) now turned ≡ without_four bytes place
 unfolding with_piece without_four
 without_four-rotated bytes now place turned within is turn =

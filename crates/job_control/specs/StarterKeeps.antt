@@ -90,7 +90,8 @@ starter_slot p = 0
 
 -- So it gives all that a part owes that serves its thread from the first call on: nobody comes into the host's slot.
 pub starter-owes : (script : Script) → HaveRegisters script
-    → OwesWorld {A = Starter} starter_posted StarterGoes IsStarterOpening starter_slot starter_thread StarterClause script
+    → OwesWorld {A = Starter} starter_posted StarterGoes IsStarterOpening starter_slot starter_thread StarterClause
+    script
 starter-owes script registers = record {
   keeps = starter-keeps script registers;
   begins = λ now opens posix slot t w part number opened.

@@ -98,7 +98,8 @@ module _ {A : Type 0} (script : Script) (past : List (Seen A)) (now : Moment A) 
     -- where the table says so, the part rests
     rests : goes_by ≡ goes_to kill.Rest bytes → Result
     rests is =
-        quiet-goes kill_posted KillGoes kill_thread (KillClause script) script past now slot part called reply given next
+        quiet-goes kill_posted KillGoes kill_thread (KillClause script) script past now slot part called reply given
+        next
         new sound turn calm lives plain (at_step part kill.Rest) on
         (record {
           part = on.went.part ∙ ap (λ (t : TurnOf KillStep). at_step part t.part) is;

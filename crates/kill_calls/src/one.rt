@@ -109,7 +109,8 @@ impl KillOne {
 
     // The call has an answer.
     fn answered(&self, next: KillStep, own: &mut Own, answered: Answer) -> (KillStep, Option<Event>)
-        ensures { (record { part = result.0; own = own.new; event = result.1 }) ≡ kill_answered self.now next own.old answered }
+        ensures { (record { part = result.0; own = own.new; event = result.1 })
+            ≡ kill_answered self.now next own.old answered }
     {
         if answer(own, result_of(answered)) {
             let event = kill_event(self.by, self.target, &self.signal, answered);

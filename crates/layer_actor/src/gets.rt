@@ -105,7 +105,8 @@ impl Gets {
 
     // With the own group word.
     fn grouped(row: RowNo, asked: Asked, own: &mut Own, word: u64) -> (GetStep, Option<Event>)
-        ensures { (record { part = result.0; own = own.new; event = result.1 }) ≡ get_grouped row asked own.old (group_of word) }
+        ensures { (record { part = result.0; own = own.new; event = result.1 })
+            ≡ get_grouped row asked own.old (group_of word) }
     {
         let Some(group) = Group::decode(word) else {
             return (GetStep::Rest, None);
@@ -125,7 +126,8 @@ impl Gets {
         own: &mut Own,
         word: u64,
     ) -> (GetStep, Option<Event>)
-        ensures { (record { part = result.0; own = own.new; event = result.1 }) ≡ get_looked row parent asked own.old word }
+        ensures { (record { part = result.0; own = own.new; event = result.1 })
+            ≡ get_looked row parent asked own.old word }
     {
         let value = if is_live(word) { parent.pid().get() } else { 1 };
         Gets::answers(row, asked, own, value)

@@ -96,7 +96,8 @@ fn begin_getpid(who: &Identity, own: &mut Own) -> Gone
 
 // A kill with these values.
 fn begin_kill(who: &Identity, own: &mut Own, target: i32, signal: i32, start: KillStart) -> Gone
-    ensures { (record { part = result.0; own = own.new; event = result.1 }) ≡ begins_kill who.now own.old target signal start }
+    ensures { (record { part = result.0; own = own.new; event = result.1 })
+        ≡ begins_kill who.now own.old target signal start }
 {
     match start {
         KillStart::Refused(error) => {

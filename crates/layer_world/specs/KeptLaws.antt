@@ -1,5 +1,6 @@
 -- That what holds of a world at all times holds at its opening, and after each directive.
-use Rattle.std.proofs.Common.{◌≡◌, ℕ, ◌+◌, ◌≤◌, ◌<◌, Bool, true, false, List, [], ◌∷◌, ◌++◌, length, Option, refl, sym, ap}
+use Rattle.std.proofs.Common.{◌≡◌, ℕ, ◌+◌, ◌≤◌, ◌<◌, Bool, true, false, List, [], ◌∷◌, ◌++◌, length, Option, refl, sym}
+use Rattle.std.proofs.Common.{ap}
 use Rattle.std.proofs.Common.{◌∙◌, subst, arith}
 use Rattle.std.proofs.lemmas.List.{length-append}
 use Rattle.w32_base.specs.Part.{KeepsLengths}
@@ -96,7 +97,8 @@ module _ {A : Type 0} (posted_of : A → Call) (goes : A → Own → Setup → R
         (record { script = script; state = state; entries = x })) (sym none) opening-world)
 
     pub opening-kept-as : (from : Script) (es : List Entry) → from ≡ script → es ≡ [] → (room spare key_places : ℕ)
-        → spare ≡ script.setup.limits.budget → script.setup.limits.budget ≤ room → key_places ≡ key_lines script.directives
+        → spare ≡ script.setup.limits.budget → script.setup.limits.budget ≤ room
+        → key_places ≡ key_lines script.directives
         → Kept (record { script = from; state = state; entries = es }) room spare key_places
     opening-kept-as from es same none room spare key_places spare_is room_is places =
         subst (λ x. Kept (record { script = x; state = state; entries = es }) room spare key_places) (sym same)

@@ -96,7 +96,8 @@ module _ {A : Type 0} (posted_of : A → Call) (goes : A → Own → Setup → R
 
       -- A turn of the next ready thread.
       module _ (next_slot next : ℕ) (ready : IsNextReady w.state.win32 slot thread next_slot next)
-          (directed : Directed posted_of goes opening slot_of thread_of_part clause w (directive.Turn next_slot next) came
+          (directed : Directed posted_of goes opening slot_of thread_of_part clause w (directive.Turn next_slot next)
+          came
           new) where
         pub settle-gives : At w (Settle ∷ lines) slot thread → At new (Settle ∷ lines) next_slot next
         settle-gives h =

@@ -8,7 +8,8 @@ use Rattle.script_spec.specs.Ranges.{is_line_within}
 use Rattle.script_spec.specs.declared.script.ScheduleLine.{ScheduleLine}
 use Rattle.w32_machine.specs.Contract.{keys_of_line, key_lines}
 
-pub next-line : (lines : List ScheduleLine) (i : ℕ) (line : ScheduleLine) → i < length lines → line ≡ get_or lines i line
+pub next-line : (lines : List ScheduleLine) (i : ℕ) (line : ScheduleLine) → i < length lines
+    → line ≡ get_or lines i line
     → drop i lines ≡ line ∷ drop (i + 1) lines
 next-line lines i line within is =
     drop_more lines i line within ∙ ap (λ x. x ∷ drop (i + 1) lines) (sym is)

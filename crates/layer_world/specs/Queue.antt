@@ -1,5 +1,6 @@
 -- The console's queue grows by the directive `key` alone, and the next process number by one at most.
-use Rattle.std.proofs.Common.{◌≡◌, ℕ, ◌+◌, ◌≤◌, Bool, true, false, List, [], ◌∷◌, ◌++◌, length, slice_get, Option, Some, None}
+use Rattle.std.proofs.Common.{◌≡◌, ℕ, ◌+◌, ◌≤◌, Bool, true, false, List, [], ◌∷◌, ◌++◌, length, slice_get, Option, Some}
+use Rattle.std.proofs.Common.{None}
 use Rattle.std.proofs.Common.{not, ◌&&◌}
 use Rattle.std.proofs.Common.{MatchOption, MatchBool, inl, inr, refl, sym, ap, ◌∙◌, subst, arith}
 use Rattle.std.proofs.lemmas.List.{length-append}
@@ -19,7 +20,8 @@ use Rattle.win32_spec.specs.HandleCalls.{first_signalled, TakesObject}
 use Rattle.win32_spec.specs.Handles.{handle_of}
 use Rattle.win32_spec.specs.Lookup.{process_of, is_live, thread_in, memory_by}
 use Rattle.win32_spec.specs.MemoryCalls.{program_no_by, is_copyable, BlockStep, code_of}
-use Rattle.win32_spec.specs.Named.{Gives, IsHandled, GetsHandle, IsNewObject, MakesObject, object_by, object_number_by, named_by, handles_by}
+use Rattle.win32_spec.specs.Named.{Gives, IsHandled, GetsHandle, IsNewObject, MakesObject, object_by, object_number_by}
+use Rattle.win32_spec.specs.Named.{named_by, handles_by}
 use Rattle.win32_spec.specs.Named.{event_named, mutex_named, process_named, terminal_named, has_absent, is_full}
 use Rattle.win32_spec.specs.ObjectCalls.{IsNewPipe, write_end_by, read_end_by}
 use Rattle.win32_spec.specs.Placing.{base_in, placed_by, Places}
@@ -41,7 +43,8 @@ module _ (s new : Win32State) (r : Reply) where
   grown after is keys next = subst (λ n. GrowsLittle s n) (sym is) (record { keys = keys; next = next })
 
   -- both stay
-  same : (answer : Reply) (after : Win32State) → after.keys ≡ s.keys → after.next ≡ s.next → Gives answer after r new → Q
+  same : (answer : Reply) (after : Win32State) → after.keys ≡ s.keys → after.next ≡ s.next → Gives answer after r new
+      → Q
   same answer after keys next g =
       grown after g.1 (subst (λ k. length k ≤ length s.keys) (sym keys) (omega arith)) (omega (arith, next))
 
@@ -54,7 +57,8 @@ module _ (s new : Win32State) (r : Reply) where
       grown _ h.after (subst (λ k. length k ≤ length s.keys) (sym keys) (omega arith)) next
 
   gets : (w names : ℕ) → GetsHandle s w names r new → Q
-  gets w names m = by_bool (is_full (handles_by s w) 1) (λ _ g. refused _ g) (λ _ n. handled s w names _ refl (omega arith) n) m
+  gets w names m = by_bool (is_full (handles_by s w) 1) (λ _ g. refused _ g) (λ _ n. handled s w names _ refl (omega
+      arith) n) m
 
   makes : (w : ℕ) (object : Object) → MakesObject s w object r new → Q
   makes w object m =
@@ -88,7 +92,8 @@ module _ (s new : Win32State) (r : Reply) where
       by_bool (is_full (handles_by s w) 1) (λ _ g. refused _ g)
       (λ _ n. handled _ w n.number _ refl (omega arith) n.handled) m.made
 
-  key : (w h : ℕ) (terminal : Terminal) (keys : List ℕ) → length keys ≤ length s.keys → KeyStep s w h terminal keys r new
+  key : (w h : ℕ) (terminal : Terminal) (keys : List ℕ) → length keys ≤ length s.keys
+      → KeyStep s w h terminal keys r new
       → Q
   key w h terminal [] few m = refused _ m
   key w h terminal (b ∷ keys) few m = grown _ m.1 (omega (arith, few)) (omega arith)

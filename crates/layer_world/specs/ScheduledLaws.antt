@@ -89,7 +89,8 @@ module _ {A : Type 0} (posted_of : A → Call) (goes : A → Own → Setup → R
 
   -- A line that has nothing to give gives way.
   pub at-passes : (w : WorldValue A) (line : ScheduleLine) (lines : List ScheduleLine) (slot thread : ℕ)
-      → IsDone w.state.win32 (line ∷ []) → keys_of_line line ≡ 0 → At w (line ∷ lines) slot thread → At w lines slot thread
+      → IsDone w.state.win32 (line ∷ []) → keys_of_line line ≡ 0 → At w (line ∷ lines) slot thread
+      → At w lines slot thread
   at-passes w line lines slot thread done keyless h = record {
     past = h.past;
     posix = h.posix;
@@ -122,7 +123,8 @@ module _ {A : Type 0} (posted_of : A → Call) (goes : A → Own → Setup → R
             (record { lines = left; slot = next_slot; thread = next })) (sym directed.script) (
               record { lines = h.passed ++ lines; slot = slot; thread = thread },
               h.scheduled,
-              gives-behind w.state.win32 (record { lines = h.passed ++ lines; slot = slot; thread = thread }) h.passed lines
+              gives-behind w.state.win32 (record { lines = h.passed ++ lines; slot = slot; thread = thread }) h.passed
+                  lines
                   d (record { lines = left; slot = next_slot; thread = next }) h.done (gives (h.passed ++ lines)),
             );
         keys = subst (λ s. keys_entered new.entries + key_lines left ≡ key_lines s.directives) (sym directed.script)

@@ -57,7 +57,8 @@ module _ {A : Type 0} (posted_of : A → Call) (goes : A → Own → Setup → R
   -- What was seen is a history of both machines up to the world's state with this POSIX state; its entries are the
   -- world's; and each thread's part stands where its clause says.
   pub record IsWorldOf (w : WorldValue A) (past : List (Seen A)) (posix : PosixState) : Type 0 where
-    pub world : IsWorld posted_of goes opening slot_of thread_of_part (clause w.script) w.script past (moment_of w posix)
+    pub world : IsWorld posted_of goes opening slot_of thread_of_part (clause w.script) w.script past
+        (moment_of w posix)
     pub entries : w.entries ≡ entries_of past
 
   -- the world in which a run of the script begins

@@ -1,5 +1,6 @@
 -- The laws of a world: its opening, and a directive.
-use Rattle.std.proofs.Common.{◌≡◌, ◌≢◌, ℕ, zero, ◌+◌, ◌≤◌, ◌<◌, Bool, true, false, List, [], ◌∷◌, ◌++◌, length, Option, Some}
+use Rattle.std.proofs.Common.{◌≡◌, ◌≢◌, ℕ, zero, ◌+◌, ◌≤◌, ◌<◌, Bool, true, false, List, [], ◌∷◌, ◌++◌, length, Option}
+use Rattle.std.proofs.Common.{Some}
 use Rattle.std.proofs.Common.{None, refl, sym, ap, ◌∙◌, subst, arith}
 use Rattle.w32_base.specs.Part.{KeepsLengths}
 use Rattle.w32_base.specs.declared.call.Call.{Call}
@@ -108,7 +109,8 @@ module _ {A : Type 0} (posted_of : A → Call) (goes : A → Own → Setup → R
         (record { before = moment_of from posix; entry = entry_to d called came new } ∷ past) after
     world-of-directive taken spare driven past posix h =
         let on = world-goes posted_of goes opening slot_of thread_of_part (clause script) begins keeps_slot keeps_thread
-        keeps_lengths script (registers-valid script valid) (HasRanges-valid script valid) owes past (moment_of from posix) h.world d called came new
+        keeps_lengths script (registers-valid script valid) (HasRanges-valid script valid) owes past (moment_of from
+        posix) h.world d called came new
         taken (within past h.entries) driven in
         let told : on.told ≡ new.last = told-given on.told new.last on.given_is (told_whole past posix h driven) in (
           on.posix,

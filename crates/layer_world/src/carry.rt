@@ -14,7 +14,8 @@ use w32_machine::{Driven, DrivenTurn};
 
 // The entry of a turn.
 fn entry_of_turn(d: Directive, turned: DrivenTurn) -> Entry
-    ensures { result ≡ record { directive = d; call = called_by turned; outcome = came_by turned; event = event_by turned } }
+    ensures { result
+        ≡ record { directive = d; call = called_by turned; outcome = came_by turned; event = event_by turned } }
 {
     match turned {
         DrivenTurn::Idle => Entry {

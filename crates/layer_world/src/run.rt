@@ -55,7 +55,8 @@ impl<P: RelyGuarantee + Drop> World<P> {
     // last one; or none where no entry is spare while some thread is ready.
     fn take_steps(&mut self, turns: u32, last: (Slot, ThreadNo)) -> Option<(Slot, ThreadNo)>
         ensures lines { (lines : List ScheduleLine)
-            → IsAt P.posted_of P.goes P.opening P.slot_of P.thread_of P.clause self.old (Steps turns ∷ lines) last.0 last.1
+            → IsAt P.posted_of P.goes P.opening P.slot_of P.thread_of P.clause self.old (Steps turns ∷ lines)
+            last.0 last.1
             → MatchOption result
             (IsSpent P.posted_of P.goes P.opening P.slot_of P.thread_of P.clause self.new)
             (λ next. IsAt P.posted_of P.goes P.opening P.slot_of P.thread_of P.clause self.new lines next.0 next.1) }
@@ -133,8 +134,8 @@ impl<P: RelyGuarantee + Drop> World<P> {
     pub fn run_script(&mut self, script: &Script) -> End
         requires script { script.now ≡ self.old.script }
         requires none { self.old.entries ≡ [] }
-        ensures journal { IsJournalOf P.posted_of P.goes P.opening P.slot_of P.thread_of self.new.script self.new.entries
-            result }
+        ensures journal { IsJournalOf P.posted_of P.goes P.opening P.slot_of P.thread_of self.new.script
+            self.new.entries result }
         ensures script { self.new.script ≡ self.old.script }
     {
         let mut last = self.before_the_first();

@@ -65,7 +65,8 @@ fn load(own: &mut Own, r: Register, address: Operand) -> bool
     requires size { length own.old.dat ≡ 64 }
     requires place { place_of (image_of own.old) < 4294967295 }
     ensures done { result ≡ not (instr_faults (Instr.Load r address) (image_of own.old)) }
-    ensures value { own.new ≡ (if result then with_image own.old (after_local (Instr.Load r address) (image_of own.old)) else own.old) }
+    ensures value { own.new
+        ≡ (if result then with_image own.old (after_local (Instr.Load r address) (image_of own.old)) else own.old) }
     ensures len { length own.new.dat ≡ 64 }
     ensures sizes { SameSizes (image_of own.old) (image_of own.new) }
 {
@@ -85,7 +86,8 @@ fn store(own: &mut Own, address: Operand, v: Operand) -> bool
     requires size { length own.old.dat ≡ 64 }
     requires place { place_of (image_of own.old) < 4294967295 }
     ensures done { result ≡ not (instr_faults (Instr.Store address v) (image_of own.old)) }
-    ensures value { own.new ≡ (if result then with_image own.old (after_local (Instr.Store address v) (image_of own.old)) else own.old) }
+    ensures value { own.new
+        ≡ (if result then with_image own.old (after_local (Instr.Store address v) (image_of own.old)) else own.old) }
     ensures len { length own.new.dat ≡ 64 }
     ensures sizes { SameSizes (image_of own.old) (image_of own.new) }
 {
@@ -105,7 +107,8 @@ fn push(own: &mut Own, v: Operand) -> bool
     requires size { length own.old.dat ≡ 64 }
     requires place { place_of (image_of own.old) < 4294967295 }
     ensures done { result ≡ not (instr_faults (Instr.Push v) (image_of own.old)) }
-    ensures value { own.new ≡ (if result then with_image own.old (after_local (Instr.Push v) (image_of own.old)) else own.old) }
+    ensures value { own.new
+        ≡ (if result then with_image own.old (after_local (Instr.Push v) (image_of own.old)) else own.old) }
     ensures len { length own.new.dat ≡ 64 }
     ensures sizes { SameSizes (image_of own.old) (image_of own.new) }
 {
@@ -126,7 +129,8 @@ fn pop(own: &mut Own, r: Register) -> bool
     requires used { in_use (image_of own.old) ≤ length own.old.stack }
     requires place { place_of (image_of own.old) < 4294967295 }
     ensures done { result ≡ not (instr_faults (Instr.Pop r) (image_of own.old)) }
-    ensures value { own.new ≡ (if result then with_image own.old (after_local (Instr.Pop r) (image_of own.old)) else own.old) }
+    ensures value { own.new
+        ≡ (if result then with_image own.old (after_local (Instr.Pop r) (image_of own.old)) else own.old) }
     ensures len { length own.new.dat ≡ 64 }
     ensures sizes { SameSizes (image_of own.old) (image_of own.new) }
 {
@@ -177,7 +181,8 @@ fn carry_out(own: &mut Own, instr: &Instr) -> bool
     requires used { in_use (image_of own.old) ≤ length own.old.stack }
     requires place { place_of (image_of own.old) < 4294967295 }
     ensures done { result ≡ (is_local instr.now && not (instr_faults instr.now (image_of own.old))) }
-    ensures value { own.new ≡ (if result then with_image own.old (after_local instr.now (image_of own.old)) else own.old) }
+    ensures value { own.new
+        ≡ (if result then with_image own.old (after_local instr.now (image_of own.old)) else own.old) }
     ensures len { length own.new.dat ≡ 64 }
     ensures sizes { SameSizes (image_of own.old) (image_of own.new) }
 {
@@ -201,7 +206,8 @@ fn carry_out(own: &mut Own, instr: &Instr) -> bool
 pub fn step(own: &mut Own, p: &Program) -> bool
     requires { length own.old.dat ≡ 64 }
     ensures done { IsTrue result ↔ (upcoming p.now.code (image_of own.old) ≡ LocalInstruction) }
-    ensures value { own.new ≡ (if result then with_image own.old (local_step p.now.code (image_of own.old)) else own.old) }
+    ensures value { own.new
+        ≡ (if result then with_image own.old (local_step p.now.code (image_of own.old)) else own.old) }
     ensures len { length own.new.dat ≡ 64 }
     ensures sizes { SameSizes (image_of own.old) (image_of own.new) }
 {

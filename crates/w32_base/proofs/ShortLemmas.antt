@@ -8,7 +8,8 @@ use Rattle.w32_base.specs.ShortLaws.{length-shown}
 drop-more : (n len : ℕ) (bytes : List ℕ) → IsShort n len bytes → drop (len + 1) bytes ≡ drop 1 (drop len bytes)
 drop-more n len bytes h = sym (drop-drop 1 len bytes)
 
-pub IsShort-push : (n len i b : ℕ) (bytes : List ℕ) → i ≡ len → len < n → IsShort n len bytes → IsShort n (len + 1) (slice_set bytes i b)
+pub IsShort-push : (n len i b : ℕ) (bytes : List ℕ) → i ≡ len → len < n → IsShort n len bytes
+    → IsShort n (len + 1) (slice_set bytes i b)
 IsShort-push n len i b bytes e room h = record {
   room = length-set bytes i b ∙ h.room;
   within = omega arith;
@@ -18,5 +19,6 @@ IsShort-push n len i b bytes e room h = record {
 }
 
 -- a short list with room shows fewer bytes than it has room for
-pub less_than_room : (n len : ℕ) (bytes xs : List ℕ) → IsShort n len bytes → shown len bytes ≡ xs → length xs < n → len < n
+pub less_than_room : (n len : ℕ) (bytes xs : List ℕ) → IsShort n len bytes → shown len bytes ≡ xs → length xs < n
+    → len < n
 less_than_room n len bytes xs h e room = omega (arith, length-shown n len bytes h, ap length e)

@@ -54,7 +54,8 @@ pub trait Part {
         → may_keep_rank (posted_of p) r a.event ≡ false → rank q < rank p };
 
     /// A turn keeps the length of each region.
-    ghost keeps_lengths: { (p q : Self) (o n : Own) (s : Setup) (r : Reply) (a : After) → 0 < rank p → goes p o s r q n a
+    ghost keeps_lengths: { (p q : Self) (o n : Own) (s : Setup) (r : Reply) (a : After) → 0 < rank p
+        → goes p o s r q n a
         → KeepsLengths o n };
 }
 

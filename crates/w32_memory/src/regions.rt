@@ -47,7 +47,8 @@ pub fn read_own(own: &Own, region: Region, place: u32, into: &mut [u8]) -> Resul
 /// A byte would lie outside the region; nothing changes then. A range of no bytes is never outside.
 pub fn write_own(own: &mut Own, region: Region, place: u32, from: &[u8]) -> Result<(), BadRange>
     ensures outside { IsErr result ↔ (is_inside (length (region_of own.old region)) place (length from.now) ≡ false) }
-    ensures bytes { OnOk result (own.new ≡ with_region own.old region (written (region_of own.old region) place from.now)) }
+    ensures bytes { OnOk result
+        (own.new ≡ with_region own.old region (written (region_of own.old region) place from.now)) }
     ensures unchanged { OnErr result (own.new ≡ own.old) }
 {
     if !lies_inside(bytes_of(own, region).len(), place, from.len()) {

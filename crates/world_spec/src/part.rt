@@ -27,8 +27,8 @@ pub trait RelyGuarantee: Whole {
     ghost owes: { (script : Script) → IsValid script → serves script
         → OwesWorld Self.posted_of Self.goes Self.opening Self.slot_of Self.thread_of (clause script) script };
 
-    /// Where its clause holds, its events are told as it gives them: none is a death for which the number of an entry is
-    /// to be put in.
+    /// Where its clause holds, its events are told as it gives them: none is a death for which the number of an entry
+    /// is to be put in.
     ghost tells: { (script : Script) → serves script → (past : List (Seen Self)) (now : Moment Self) (w : ℕ) (p : Self)
         → clause script past now w p → (q : Self) (o n : Own) (r : Reply) (a : After)
         → Self.goes p o script.setup r q n a → is_told_whole a.event ≡ true };

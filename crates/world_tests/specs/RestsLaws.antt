@@ -35,7 +35,8 @@ resting_lowers p q o n s r a went keeps =
 abbrev resting_of : ℕ → ℕ → Bool → Resting
 resting_of slot thread rests = record { slot = slot; thread = thread; rests = rests }
 
-pub one_resting : (p q : Resting) → IsRestingOpening p → IsRestingOpening q → p.slot ≡ q.slot → p.thread ≡ q.thread → p ≡ q
+pub one_resting : (p q : Resting) → IsRestingOpening p → IsRestingOpening q → p.slot ≡ q.slot → p.thread ≡ q.thread
+    → p ≡ q
 one_resting p q opened other slot thread =
     ap (λ x. resting_of x p.thread p.rests) slot ∙ ap (λ x. resting_of q.slot x p.rests) thread
     ∙ ap (λ x. resting_of q.slot q.thread x) (opened ∙ sym other)

@@ -58,7 +58,8 @@ impl Part for Rests {
 impl Whole for Rests {
     ghost use Rattle.world_spec.specs.Resting.{IsRestingOpening};
     ghost use Rattle.world_spec.specs.RestingWorld.{resting_slot, resting_thread, resting_begins};
-    ghost use Rattle.world_tests.specs.RestsLaws.{resting_goes_on, one_resting, resting_image, resting_ignores, resting_stays};
+    ghost use Rattle.world_tests.specs.RestsLaws.{resting_goes_on, one_resting, resting_image, resting_ignores};
+    ghost use Rattle.world_tests.specs.RestsLaws.{resting_stays};
 
     ghost slot_of = { resting_slot };
 

@@ -11,7 +11,11 @@ returns-in-Err-Large g c =
     let is = ap Err c.in-Err-Large.field-0-is in
     refusal_ends _ _ _ _ _ _ _ (record {
       faults = c.in-Err-Large.ensures.no_fault_large is;
-      read = inr (record { drawn = c.in-Err-Large.ensures.large is; ends = c.in-Err-Large.ensures.not_ended; is = refl });
+      read = inr (record {
+        drawn = c.in-Err-Large.ensures.large is;
+        ends = c.in-Err-Large.ensures.not_ended;
+        is = refl;
+      });
     }) c.refuse_text.ensures
 
 pub returns-in-Ok-read_script : goal.returns-in-Ok-read_script

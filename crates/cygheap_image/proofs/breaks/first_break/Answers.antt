@@ -16,7 +16,8 @@ returns-then-not-fits_at c =
 pub loop-i-preserved : goal.loop-i-preserved
 loop-i-preserved c = (
   c.loop-i.invariant.0,
-  passed_more c.args.bytes.now c.loop-i.i (omega (arith, c.loop-i.invariant.0)) c.loop-i.invariant.1 (sym (c.fits_at.ensures ∙ ap (λ (n : ℕ). fits_at c.args.bytes.now n
+  passed_more c.args.bytes.now c.loop-i.i (omega (arith, c.loop-i.invariant.0)) c.loop-i.invariant.1 (sym
+      (c.fits_at.ensures ∙ ap (λ (n : ℕ). fits_at c.args.bytes.now n
       (byte_at c.args.bytes.now n)) c.from.ensures) ∙ c.if-not-fits_at.false),
 )
 

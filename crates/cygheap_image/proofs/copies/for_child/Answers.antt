@@ -19,7 +19,8 @@ pub returns-clause-value : goal.returns-clause-value
 returns-clause-value c =
     let own : Own = c.args.own.now in
     ap (λ (xs : List ℕ). record own { scratch = xs })
-    (written_back own.scratch c.clear_children.new.bytes c.copy_in.new.self c.clear_children.ensures.layout c.copy_in.ensures
+    (written_back own.scratch c.clear_children.new.bytes c.copy_in.new.self c.clear_children.ensures.layout
+    c.copy_in.ensures
     ∙ ap (λ (xs : List ℕ). xs ++ drop 288 own.scratch)
     (child_copy own.scratch c.copied-heap.result c.set_owed.new.bytes c.clear_children.new.bytes c.copied-heap.ensures
     (kept_copy own.scratch c.copied-heap.result c.copied-heap.ensures c.requires) c.set_owed.ensures.value

@@ -10,7 +10,8 @@ loop-k-init c = refl
 
 pub loop-k-preserved : goal.loop-k-preserved
 loop-k-preserved c =
-    filled_step (λ k. action_in c.args.bytes.now (k + 1)) Default 31 c.loop-k.k c.loop-k.actions c.from.result c.action.result (omega arith) c.loop-k.invariant
+    filled_step (λ k. action_in c.args.bytes.now (k + 1)) Default 31 c.loop-k.k c.loop-k.actions c.from.result
+    c.action.result (omega arith) c.loop-k.invariant
     c.from.ensures c.action.ensures
 
 pub returns : goal.returns

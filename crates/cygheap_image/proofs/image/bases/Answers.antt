@@ -9,7 +9,8 @@ loop-k-init c = refl
 
 pub loop-k-preserved : goal.loop-k-preserved
 loop-k-preserved c =
-    filled_step (base_in c.args.bytes.now) 0 8 c.loop-k.k c.loop-k.bases c.from.result c.base.result (omega arith) c.loop-k.invariant
+    filled_step (base_in c.args.bytes.now) 0 8 c.loop-k.k c.loop-k.bases c.from.result c.base.result (omega arith)
+    c.loop-k.invariant
     c.from.ensures c.base.ensures
 
 pub returns : goal.returns

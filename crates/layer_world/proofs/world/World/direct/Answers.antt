@@ -12,7 +12,8 @@ invariant_of-self g c =
     let allowed : IsAllowed w c.args.d = subst (λ v. IsAllowed v c.args.d) (sym c.self.view_is) c.requires in
     directed-kept-as g.P.Part.posted_of g.P.Part.goes g.P.Whole.opening g.P.Whole.slot_of g.P.Whole.thread_of
     g.P.RelyGuarantee.clause g.P.RelyGuarantee.serves g.met.P.Whole.begins g.met.P.RelyGuarantee.owes
-    g.met.P.Whole.keeps_slot g.met.P.Whole.keeps_thread (λ p q o n s r a went. g.met.P.Part.keeps_lengths p q o n s r a (g.met.P.Whole.is_never_done p) went)
+    g.met.P.Whole.keeps_slot g.met.P.Whole.keeps_thread (λ p q o n s r a went. g.met.P.Part.keeps_lengths p q o n s r a
+    (g.met.P.Whole.is_never_done p) went)
     g.met.P.RelyGuarantee.tells w m.recorder.room m.spare
     m.key_places c.self.invariant c.args.d allowed e.call e.outcome c.carry_out-entry.new.driven.state
     c.carry_out-entry.ensures.driven c.carry_out-entry.new.driven.script c.push.new.self.entries
@@ -42,7 +43,8 @@ returns g c =
     })) c.self.view_is
     (directed-as g.P.Part.posted_of g.P.Part.goes g.P.Whole.opening g.P.Whole.slot_of g.P.Whole.thread_of
     g.P.RelyGuarantee.clause g.P.RelyGuarantee.serves g.met.P.Whole.begins g.met.P.RelyGuarantee.owes
-    g.met.P.Whole.keeps_slot g.met.P.Whole.keeps_thread (λ p q o n s r a went. g.met.P.Part.keeps_lengths p q o n s r a (g.met.P.Whole.is_never_done p) went)
+    g.met.P.Whole.keeps_slot g.met.P.Whole.keeps_thread (λ p q o n s r a went. g.met.P.Part.keeps_lengths p q o n s r a
+    (g.met.P.Whole.is_never_done p) went)
     g.met.P.RelyGuarantee.tells w m.recorder.room m.spare
     m.key_places c.self.invariant c.args.d allowed e.call e.outcome c.carry_out-entry.new.driven.state
     c.carry_out-entry.ensures.driven c.carry_out-entry.new.driven.script c.push.new.self.entries

@@ -17,7 +17,8 @@ unreachable-requires g c =
     let h = c.self.invariant in
     row-index c.self.inside.driven.script h.past _ h.world.world.sound c.args.row _ c.get.ensures.range.0
     c.get.ensures.range.1 (omega (arith, c.from.ensures, c.get.ensures.value))
-    (subst (λ s. IfSome (section_words s.objects) (λ ws. load_reply ws (3 * c.from.result - 2) ≡ reply.BadIndex)) c.machine.ensures.state
+    (subst (λ s. IfSome (section_words s.objects) (λ ws. load_reply ws (3 * c.from.result - 2)
+    ≡ reply.BadIndex)) c.machine.ensures.state
     c.in-Err.ensures)
 
 pub returns : goal.returns
@@ -25,6 +26,7 @@ returns g c =
     let h = c.self.invariant in
     row-word c.self.inside.driven.script h.past _ h.world.world.sound c.args.row _ c.in-Ok.word c.get.ensures.range.0
     c.get.ensures.range.1 (omega (arith, c.from.ensures, c.get.ensures.value))
-    (subst (λ s. IfSome (section_words s.objects) (λ ws. load_reply ws (3 * c.from.result - 2) ≡ reply.Word c.in-Ok.word))
+    (subst (λ s. IfSome (section_words s.objects) (λ ws. load_reply ws (3 * c.from.result - 2)
+    ≡ reply.Word c.in-Ok.word))
     c.machine.ensures.state c.in-Ok.ensures)
     ∙ ap (λ v. main_at v.state.win32 c.args.row) c.self.view_is

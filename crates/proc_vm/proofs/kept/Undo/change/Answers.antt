@@ -13,7 +13,8 @@ within u k i is h =
     let short : length (take u.count u.changes) ≡ length k.changes = ap (λ (k : Kept). length k.changes) is in
     omega (arith, short, length-take u.count u.changes)
 
-at : (u : Inside) (k : Kept) (i : ℕ) (d : Change) → kept_of u ≡ k → i < length k.changes → slice_get k.changes i ≡ Some (slice_index_or u.changes i d)
+at : (u : Inside) (k : Kept) (i : ℕ) (d : Change) → kept_of u ≡ k → i < length k.changes
+    → slice_get k.changes i ≡ Some (slice_index_or u.changes i d)
 at u k i d is h =
     slice_get-get_or k.changes i d h
     ∙ ap (λ (k : Kept). Some (slice_index_or k.changes i d)) (sym is)

@@ -5,5 +5,9 @@ use Rattle.proc_vm.proofs.kept.Undo.len.Goals as goal
 
 pub returns : goal.returns
 returns c =
-    sym (length-take-le c.self.inside.count c.self.inside.changes (omega (arith, c.self.invariant.count, c.self.invariant.room)))
+    sym (length-take-le c.self.inside.count c.self.inside.changes (omega (
+      arith,
+      c.self.invariant.count,
+      c.self.invariant.room,
+    )))
     ∙ ap (λ (k : Kept). length k.changes) c.self.view_is
