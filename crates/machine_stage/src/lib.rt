@@ -2,5 +2,7 @@
 #![tactic(auto)]
 
 mod stage;
+mod steps;
 
 pub use stage::{Stage, TWO_SLOTS, handle, handles};
+pub use steps::Step;

@@ -9,5 +9,3 @@ mod objects;
 mod processes;
 #[cfg(test)]
 mod terminal;
-#[cfg(test)]
-mod tried;

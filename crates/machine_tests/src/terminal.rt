@@ -1,9 +1,9 @@
 //! The terminal: keys that the console takes, lines that a process takes.
 
-use crate::tried::{Tried, open_stage};
-use machine_stage::{handle, handles};
-use std::alloc::{AllocError, AllocGlobal, Global};
-use std::process::Abort;
+use machine_stage::Step::{Holds, Says, Types, Waits};
+use machine_stage::{Stage, Step, handle, handles};
+use std::alloc::Global;
+use std::test::Fail;
 use w32_base::{Call, Pid, Reply, TtyOp};
 
 /// ISIG and ECHO, and with NOFLSH.
@@ -28,8 +28,8 @@ const HEAD: &[u8] =
 
 const DIGITS: [u8; 16] = *b"0123456789abcdef";
 
-/// A script whose schedule gives these keys.
-fn script_with(alloc: Global, keys: &[u8]) -> Result<Vec<u8>, AllocError> {
+/// The machine with these keys in the console's queue.
+fn open_typed(alloc: Global, keys: &[u8]) -> Result<Stage, Fail> {
     let mut text = Vec::new(alloc);
     text.extend_from_slice(HEAD)?;
     for key in keys {
@@ -39,56 +39,32 @@ fn script_with(alloc: Global, keys: &[u8]) -> Result<Vec<u8>, AllocError> {
         text.push(b'\n')?;
     }
     text.extend_from_slice(b"settle\n")?;
-    Ok(text)
-}
-
-/// The machine with these keys in the console's queue.
-fn open_typed<R: AllocGlobal + Abort>(rt: &R, keys: &[u8]) -> Tried {
-    match script_with(rt.alloc(), keys) {
-        Ok(text) => open_stage(rt, text.as_slice()),
-        Err(fault) => panic!(rt; "{fault}"),
-    }
-}
-
-/// The console takes so many keys, none of which is for a signal.
-fn types<R: Abort>(m: &mut Tried, rt: &R, count: usize) {
-    for _ in 0..count {
-        match m.call(0, 0, Call::Tty(handle(3), TtyOp::Key)) {
-            Some(Reply::Key(_, 0, _)) => {}
-            other => panic!(rt; "{other:?}"),
-        }
-    }
+    Ok(Stage::open(alloc, text.as_slice())?)
 }
 
 /// The console takes a key that is for a signal to the foreground group.
-fn signals<R: Abort>(m: &mut Tried, rt: &R, key: u8, signal: u8) {
-    m.says(
-        rt,
-        0,
-        Call::Tty(handle(3), TtyOp::Key),
-        Reply::Key(key, signal, group()),
-    );
+fn signals(key: u8, signal: u8) -> Step {
+    Says(0, terminal(TtyOp::Key), Reply::Key(key, signal, group()))
 }
 
 /// Process 2 takes at most so many bytes of the first done line, and gets this many.
-fn takes<R: Abort>(m: &mut Tried, rt: &R, most: u32, got: u8) {
-    m.says(
-        rt,
-        1,
-        Call::Tty(handle(3), TtyOp::Take(group(), most, 0)),
-        Reply::Line(got),
-    );
+fn takes(most: u32, got: u8) -> Step {
+    Says(1, terminal(TtyOp::Take(group(), most, 0)), Reply::Line(got))
 }
 
 /// No line is done.
-fn has_no_line<R: Abort>(m: &mut Tried, rt: &R) {
-    m.says(
-        rt,
-        1,
-        Call::Tty(handle(3), TtyOp::Take(group(), 64, 0)),
-        Reply::NoLine,
-    );
-    m.waits(rt, 1, Call::WaitAny(handles(&[3])));
+fn has_no_line() -> Step {
+    Says(1, terminal(TtyOp::Take(group(), 64, 0)), Reply::NoLine)
+}
+
+/// No line is done, and a wait for one isn't ready.
+fn waits_for_a_line() -> Step {
+    Waits(1, Call::WaitAny(handles(&[3])))
+}
+
+/// A call on the terminal.
+fn terminal(op: TtyOp) -> Call {
+    Call::Tty(handle(3), op)
 }
 
 /// The foreground group at the opening.
@@ -97,246 +73,245 @@ fn group() -> Pid {
 }
 
 #[test]
-fn a_line_is_taken_in_parts(rt: HostRuntime) {
-    let mut m = open_typed(&rt, b"abc\nd\n");
-    types(&mut m, &rt, 3);
-    has_no_line(&mut m, &rt);
-    types(&mut m, &rt, 3);
-    takes(&mut m, &rt, 2, 2);
-    assert_eq!(rt; m.heap_byte(1, 1), Some(b'b'));
-    takes(&mut m, &rt, 64, 2);
-    assert_eq!(rt; m.heap_byte(1, 0), Some(b'c'));
-    takes(&mut m, &rt, 64, 2);
-    has_no_line(&mut m, &rt);
+fn a_line_is_taken_in_parts(rt: HostRuntime) -> Result<(), Fail> {
+    let mut m = open_typed(rt.alloc(), b"abc\nd\n")?;
+    let steps = [
+        Types(3),
+        has_no_line(),
+        waits_for_a_line(),
+        Types(3),
+        takes(2, 2),
+        Holds(1, 1, b'b'),
+        takes(64, 2),
+        Holds(1, 0, b'c'),
+        takes(64, 2),
+        has_no_line(),
+        waits_for_a_line(),
+    ];
+    assert_eq!(rt; m.try_steps(&steps), None);
+    Ok(())
 }
 
 #[test]
-fn a_key_waits_for_the_console(rt: HostRuntime) {
-    let mut m = open_typed(&rt, b"a");
-    m.says(&rt, 0, Call::WaitAny(handles(&[3])), Reply::Woke(0));
-    m.says(
-        &rt,
-        0,
-        Call::Tty(handle(3), TtyOp::Key),
-        Reply::Key(b'a', 0, group()),
-    );
-    m.says(&rt, 0, Call::Tty(handle(3), TtyOp::Key), Reply::NoKey);
-    m.waits(&rt, 0, Call::WaitAny(handles(&[3])));
-    m.says(&rt, 0, Call::Tty(handle(2), TtyOp::Key), Reply::BadHandle);
+fn a_key_waits_for_the_console(rt: HostRuntime) -> Result<(), Fail> {
+    let mut m = open_typed(rt.alloc(), b"a")?;
+    let steps = [
+        Says(0, Call::WaitAny(handles(&[3])), Reply::Woke(0)),
+        Says(0, terminal(TtyOp::Key), Reply::Key(b'a', 0, group())),
+        Says(0, terminal(TtyOp::Key), Reply::NoKey),
+        Waits(0, Call::WaitAny(handles(&[3]))),
+        Says(0, Call::Tty(handle(2), TtyOp::Key), Reply::BadHandle),
+    ];
+    assert_eq!(rt; m.try_steps(&steps), None);
+    Ok(())
 }
 
 #[test]
-fn sixteen_lines_are_done_at_most(rt: HostRuntime) {
-    let mut m = open_typed(&rt, &[NEW_LINE; 18]);
-    types(&mut m, &rt, 18);
+fn sixteen_lines_are_done_at_most(rt: HostRuntime) -> Result<(), Fail> {
+    let mut m = open_typed(rt.alloc(), &[NEW_LINE; 18])?;
+    assert!(rt; m.goes(&Types(18)));
     for _ in 0..16 {
-        takes(&mut m, &rt, 64, 1);
+        assert!(rt; m.goes(&takes(64, 1)));
     }
-    has_no_line(&mut m, &rt);
+    let steps = [has_no_line(), waits_for_a_line()];
+    assert_eq!(rt; m.try_steps(&steps), None);
+    Ok(())
 }
 
 #[test]
-fn with_sixteen_lines_an_end_is_dropped(rt: HostRuntime) {
-    let mut m = open_typed(&rt, b"\n\n\n\n\n\n\n\n\n\n\n\n\n\n\n\na\x04\nb\n");
-    // the line of `a` goes on when there is room again
-    types(&mut m, &rt, 19);
-    takes(&mut m, &rt, 64, 1);
-    types(&mut m, &rt, 2);
+fn with_sixteen_lines_an_end_is_dropped(rt: HostRuntime) -> Result<(), Fail> {
+    let mut m = open_typed(rt.alloc(), b"\n\n\n\n\n\n\n\n\n\n\n\n\n\n\n\na\x04\nb\n")?;
+    let steps = [
+        // the line of `a` goes on when there is room again
+        Types(19),
+        takes(64, 1),
+        Types(2),
+    ];
+    assert_eq!(rt; m.try_steps(&steps), None);
     for _ in 0..15 {
-        takes(&mut m, &rt, 64, 1);
+        assert!(rt; m.goes(&takes(64, 1)));
     }
-    takes(&mut m, &rt, 64, 3);
-    assert_eq!(rt; m.heap_byte(1, 1), Some(b'b'));
-    has_no_line(&mut m, &rt);
+    let steps = [
+        takes(64, 3),
+        Holds(1, 1, b'b'),
+        has_no_line(),
+        waits_for_a_line(),
+    ];
+    assert_eq!(rt; m.try_steps(&steps), None);
+    Ok(())
 }
 
 #[test]
-fn a_line_has_254_bytes_before_its_end(rt: HostRuntime) {
+fn a_line_has_254_bytes_before_its_end(rt: HostRuntime) -> Result<(), Fail> {
     let mut keys = [b'a'; 258];
     keys[254] = b'b';
     keys[257] = NEW_LINE;
-    let mut m = open_typed(&rt, &keys);
-    types(&mut m, &rt, 258);
+    let mut m = open_typed(rt.alloc(), &keys)?;
+    assert!(rt; m.goes(&Types(258)));
     for _ in 0..3 {
-        takes(&mut m, &rt, 64, 64);
+        assert!(rt; m.goes(&takes(64, 64)));
     }
-    takes(&mut m, &rt, 64, 63);
-    assert_eq!(rt; m.heap_byte(1, 61), Some(b'a'));
-    assert_eq!(rt; m.heap_byte(1, 62), Some(NEW_LINE));
-    has_no_line(&mut m, &rt);
+    let steps = [
+        takes(64, 63),
+        Holds(1, 61, b'a'),
+        Holds(1, 62, NEW_LINE),
+        has_no_line(),
+        waits_for_a_line(),
+    ];
+    assert_eq!(rt; m.try_steps(&steps), None);
+    Ok(())
 }
 
 #[test]
-fn erase_and_kill_leave_an_empty_line_alone(rt: HostRuntime) {
+fn erase_and_kill_leave_an_empty_line_alone(rt: HostRuntime) -> Result<(), Fail> {
     let mut m = open_typed(
-        &rt,
+        rt.alloc(),
         &[
             KILL, ERASE, b'a', b'b', ERASE, b'\n', b'c', KILL, b'd', b'\n',
         ],
-    );
-    types(&mut m, &rt, 10);
-    takes(&mut m, &rt, 64, 2);
-    assert_eq!(rt; m.heap_byte(1, 0), Some(b'a'));
-    takes(&mut m, &rt, 64, 2);
-    assert_eq!(rt; m.heap_byte(1, 0), Some(b'd'));
-    has_no_line(&mut m, &rt);
+    )?;
+    let steps = [
+        Types(10),
+        takes(64, 2),
+        Holds(1, 0, b'a'),
+        takes(64, 2),
+        Holds(1, 0, b'd'),
+        has_no_line(),
+        waits_for_a_line(),
+    ];
+    assert_eq!(rt; m.try_steps(&steps), None);
+    Ok(())
 }
 
 #[test]
-fn an_end_of_file_ends_a_line_without_a_byte(rt: HostRuntime) {
-    let mut m = open_typed(&rt, &[EOF, b'a', EOF]);
-    types(&mut m, &rt, 3);
-    takes(&mut m, &rt, 64, 0);
-    takes(&mut m, &rt, 64, 1);
-    has_no_line(&mut m, &rt);
+fn an_end_of_file_ends_a_line_without_a_byte(rt: HostRuntime) -> Result<(), Fail> {
+    let mut m = open_typed(rt.alloc(), &[EOF, b'a', EOF])?;
+    let steps = [
+        Types(3),
+        takes(64, 0),
+        takes(64, 1),
+        has_no_line(),
+        waits_for_a_line(),
+    ];
+    assert_eq!(rt; m.try_steps(&steps), None);
+    Ok(())
 }
 
 #[test]
-fn a_signal_drops_all_lines(rt: HostRuntime) {
-    let mut m = open_typed(&rt, &[b'a', b'\n', b'b', INTR, b'c', b'\n', QUIT, SUSPEND]);
-    types(&mut m, &rt, 3);
-    signals(&mut m, &rt, INTR, 2);
-    has_no_line(&mut m, &rt);
-    types(&mut m, &rt, 2);
-    takes(&mut m, &rt, 1, 1);
-    assert_eq!(rt; m.heap_byte(1, 0), Some(b'c'));
-    signals(&mut m, &rt, QUIT, 3);
-    signals(&mut m, &rt, SUSPEND, 20);
-    has_no_line(&mut m, &rt);
+fn a_signal_drops_all_lines(rt: HostRuntime) -> Result<(), Fail> {
+    let mut m = open_typed(
+        rt.alloc(),
+        &[b'a', b'\n', b'b', INTR, b'c', b'\n', QUIT, SUSPEND],
+    )?;
+    let steps = [
+        Types(3),
+        signals(INTR, 2),
+        has_no_line(),
+        waits_for_a_line(),
+        Types(2),
+        takes(1, 1),
+        Holds(1, 0, b'c'),
+        signals(QUIT, 3),
+        signals(SUSPEND, 20),
+        has_no_line(),
+        waits_for_a_line(),
+    ];
+    assert_eq!(rt; m.try_steps(&steps), None);
+    Ok(())
 }
 
 #[test]
-fn without_flushing_a_signal_drops_nothing(rt: HostRuntime) {
-    let mut m = open_typed(&rt, &[b'a', b'\n', b'b', INTR, b'c', b'\n']);
-    let flags = Call::Tty(handle(3), TtyOp::Flags(group(), NO_FLUSH, false));
-    m.says(&rt, 1, flags, Reply::Done);
-    types(&mut m, &rt, 3);
-    signals(&mut m, &rt, INTR, 2);
-    types(&mut m, &rt, 2);
-    takes(&mut m, &rt, 64, 2);
-    takes(&mut m, &rt, 64, 3);
-    has_no_line(&mut m, &rt);
+fn without_flushing_a_signal_drops_nothing(rt: HostRuntime) -> Result<(), Fail> {
+    let mut m = open_typed(rt.alloc(), &[b'a', b'\n', b'b', INTR, b'c', b'\n'])?;
+    let flags = terminal(TtyOp::Flags(group(), NO_FLUSH, false));
+    let steps = [
+        Says(1, flags, Reply::Done),
+        Types(3),
+        signals(INTR, 2),
+        Types(2),
+        takes(64, 2),
+        takes(64, 3),
+        has_no_line(),
+        waits_for_a_line(),
+    ];
+    assert_eq!(rt; m.try_steps(&steps), None);
+    Ok(())
 }
 
 #[test]
-fn without_isig_intr_is_a_byte(rt: HostRuntime) {
-    let mut m = open_typed(&rt, &[INTR, b'\n']);
-    m.says(
-        &rt,
-        1,
-        Call::Tty(handle(3), TtyOp::Flags(group(), 2, false)),
-        Reply::Done,
-    );
-    types(&mut m, &rt, 2);
-    takes(&mut m, &rt, 64, 2);
-    assert_eq!(rt; m.heap_byte(1, 0), Some(INTR));
+fn without_isig_intr_is_a_byte(rt: HostRuntime) -> Result<(), Fail> {
+    let mut m = open_typed(rt.alloc(), &[INTR, b'\n'])?;
+    let steps = [
+        Says(1, terminal(TtyOp::Flags(group(), 2, false)), Reply::Done),
+        Types(2),
+        takes(64, 2),
+        Holds(1, 0, INTR),
+    ];
+    assert_eq!(rt; m.try_steps(&steps), None);
+    Ok(())
 }
 
 #[test]
-fn a_background_group_is_held_up(rt: HostRuntime) {
-    let mut m = open_typed(&rt, b"a\n");
-    types(&mut m, &rt, 2);
+fn a_background_group_is_held_up(rt: HostRuntime) -> Result<(), Fail> {
+    let mut m = open_typed(rt.alloc(), b"a\n")?;
     let other = Pid::new(3);
-    m.says(
-        &rt,
-        1,
-        Call::Tty(handle(3), TtyOp::Take(other, 64, 0)),
-        Reply::Background,
-    );
-    m.says(
-        &rt,
-        1,
-        Call::Tty(handle(3), TtyOp::Take(other, 64, 1)),
-        Reply::BadRange,
-    );
-    m.says(
-        &rt,
-        1,
-        Call::Tty(handle(3), TtyOp::Take(other, 65, 0)),
-        Reply::BadRange,
-    );
-    m.says(
-        &rt,
-        1,
-        Call::Tty(handle(3), TtyOp::Flags(other, 15, false)),
-        Reply::Background,
-    );
-    m.says(
-        &rt,
-        1,
-        Call::Tty(handle(3), TtyOp::Put(other, 64, 0, false)),
-        Reply::Written(64),
-    );
-    m.says(
-        &rt,
-        1,
-        Call::Tty(handle(3), TtyOp::Flags(other, 15, true)),
-        Reply::Done,
-    );
-    m.says(
-        &rt,
-        1,
-        Call::Tty(handle(3), TtyOp::Put(other, 64, 0, false)),
-        Reply::Background,
-    );
-    m.says(
-        &rt,
-        1,
-        Call::Tty(handle(3), TtyOp::Put(other, 64, 0, true)),
-        Reply::Written(64),
-    );
+    let steps = [
+        Types(2),
+        Says(1, terminal(TtyOp::Take(other, 64, 0)), Reply::Background),
+        Says(1, terminal(TtyOp::Take(other, 64, 1)), Reply::BadRange),
+        Says(1, terminal(TtyOp::Take(other, 65, 0)), Reply::BadRange),
+        Says(
+            1,
+            terminal(TtyOp::Flags(other, 15, false)),
+            Reply::Background,
+        ),
+        Says(
+            1,
+            terminal(TtyOp::Put(other, 64, 0, false)),
+            Reply::Written(64),
+        ),
+        Says(1, terminal(TtyOp::Flags(other, 15, true)), Reply::Done),
+        Says(
+            1,
+            terminal(TtyOp::Put(other, 64, 0, false)),
+            Reply::Background,
+        ),
+        Says(
+            1,
+            terminal(TtyOp::Put(other, 64, 0, true)),
+            Reply::Written(64),
+        ),
+    ];
+    assert_eq!(rt; m.try_steps(&steps), None);
+    Ok(())
 }
 
 #[test]
-fn the_foreground_group_is_set_and_told(rt: HostRuntime) {
-    let mut m = open_typed(&rt, b"a");
+fn the_foreground_group_is_set_and_told(rt: HostRuntime) -> Result<(), Fail> {
+    let mut m = open_typed(rt.alloc(), b"a")?;
     let other = Pid::new(3);
-    m.says(
-        &rt,
-        1,
-        Call::Tty(handle(3), TtyOp::SetForeground(other, group(), false)),
-        Reply::Background,
-    );
-    m.says(
-        &rt,
-        1,
-        Call::Tty(handle(3), TtyOp::State),
-        Reply::State(group(), group(), 3),
-    );
-    m.says(
-        &rt,
-        1,
-        Call::Tty(handle(3), TtyOp::SetForeground(group(), other, false)),
-        Reply::Done,
-    );
-    m.says(
-        &rt,
-        0,
-        Call::Tty(handle(3), TtyOp::State),
-        Reply::State(other, group(), 3),
-    );
-    m.says(
-        &rt,
-        0,
-        Call::Tty(handle(3), TtyOp::Key),
-        Reply::Key(b'a', 0, other),
-    );
-    m.says(
-        &rt,
-        1,
-        Call::Tty(handle(3), TtyOp::Take(group(), 64, 0)),
-        Reply::Background,
-    );
-    m.says(
-        &rt,
-        1,
-        Call::Tty(handle(3), TtyOp::SetForeground(group(), group(), true)),
-        Reply::Done,
-    );
-    m.says(
-        &rt,
-        1,
-        Call::Tty(handle(3), TtyOp::Take(group(), 64, 0)),
-        Reply::NoLine,
-    );
+    let steps = [
+        Says(
+            1,
+            terminal(TtyOp::SetForeground(other, group(), false)),
+            Reply::Background,
+        ),
+        Says(1, terminal(TtyOp::State), Reply::State(group(), group(), 3)),
+        Says(
+            1,
+            terminal(TtyOp::SetForeground(group(), other, false)),
+            Reply::Done,
+        ),
+        Says(0, terminal(TtyOp::State), Reply::State(other, group(), 3)),
+        Says(0, terminal(TtyOp::Key), Reply::Key(b'a', 0, other)),
+        Says(1, terminal(TtyOp::Take(group(), 64, 0)), Reply::Background),
+        Says(
+            1,
+            terminal(TtyOp::SetForeground(group(), group(), true)),
+            Reply::Done,
+        ),
+        Says(1, terminal(TtyOp::Take(group(), 64, 0)), Reply::NoLine),
+    ];
+    assert_eq!(rt; m.try_steps(&steps), None);
+    Ok(())
 }
