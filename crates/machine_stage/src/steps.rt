@@ -18,6 +18,8 @@ pub enum Step {
     Ends(u8, Option<WinNo>),
     /// The heap of the process in a slot has this byte at a place.
     Holds(u8, usize, u8),
+    /// The host puts a word at a place of the section.
+    Stores(u32, u64),
     /// The console takes so many keys, none of which is for a signal.
     Types(u16),
 }
@@ -42,6 +44,7 @@ impl Stage {
             Step::Makes(number, listed) => self.makes(*number, *listed),
             Step::Ends(slot, ended) => self.end(*slot) == *ended,
             Step::Holds(slot, place, b) => self.heap_byte(*slot, *place) == Some(*b),
+            Step::Stores(place, word) => self.stores(*place, *word),
             Step::Types(count) => self.types(*count),
         }
     }
@@ -53,6 +56,15 @@ impl Stage {
             return false;
         }
         self.call(1, 0, Call::Resume(handle(number), 0)) == Some(Reply::Count(1))
+    }
+
+    // The host puts a word at a place of the section.
+    fn stores(&mut self, place: u32, word: u64) -> bool {
+        let Some(Reply::Word(old)) = self.call(0, 0, Call::Load(handle(1), place)) else {
+            return false;
+        };
+        let exchange = Call::CompareExchange(handle(1), place, old, word);
+        self.call(0, 0, exchange) == Some(Reply::Word(old))
     }
 
     // The console takes so many keys, none of which is for a signal.

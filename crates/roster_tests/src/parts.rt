@@ -5,11 +5,13 @@ ghost use Rattle.std.specs.Prelude.{◌≡◌, ◌<◌, false};
 ghost use Rattle.roster.specs.Post.{post_rank};
 
 use cyg_script::read_script;
-use machine_stage::{Stage, TWO_SLOTS, handle, handles};
+use machine_stage::Step::{Says, Stores, Waits};
+use machine_stage::{Stage, Step, TWO_SLOTS, handle, handles};
 use roster::{Claim, Hold, Let, Orphaned, Post, Posted, Poster, Scan, Signal, Wake};
 use script_spec::Script;
 use std::alloc::AllocGlobal;
 use std::process::Abort;
+use std::test::Fail;
 use w32_base::{Acting, Answer, Call, Event, Number, Own, Part, Pid, Reply, RowNo, WinNo};
 
 /// Image 3 runs; the same with INT pending, with TERM pending, with both.
@@ -82,65 +84,44 @@ impl Scene {
         }
     }
 
-    /// The main thread of a slot makes a call, which answers so.
-    fn says<R: Abort>(&mut self, rt: &R, slot: u8, call: Call, reply: Reply) {
-        assert_eq!(rt; self.stage.call(slot, 0, call), Some(reply), "{call:?}");
+    /// Takes steps one after another, up to the first one of which something else comes, and answers its place.
+    fn try_steps(&mut self, steps: &[Step]) -> Option<usize> {
+        self.stage.try_steps(steps)
     }
 
-    /// The word at a place of the section is this one.
-    fn has<R: Abort>(&mut self, rt: &R, place: u32, word: u64) {
-        self.says(rt, 0, Call::Load(handle(1), place), Reply::Word(word));
-    }
-
-    /// The host puts a word at a place of the section.
-    fn store<R: Abort>(&mut self, rt: &R, place: u32, word: u64) {
-        match self.stage.call(0, 0, Call::Load(handle(1), place)) {
-            Some(Reply::Word(old)) => {
-                let exchange = Call::CompareExchange(handle(1), place, old, word);
-                self.says(rt, 0, exchange, Reply::Word(old));
-            }
-            other => panic!(rt; "{other:?}"),
-        }
-    }
-
-    /// A process gets its event and its wake pipe.
-    fn gets_wake_pipe<R: Abort>(&mut self, rt: &R, slot: u8) {
-        self.says(
-            rt,
-            slot,
-            Call::Event(false, false),
-            Reply::Handle(handle(5)),
-        );
-        self.says(rt, slot, Call::Pipe, Reply::Two(handle(6), handle(7)));
-    }
-
-    /// Process 2 makes process 3 in slot 2, which has handles on the section, the mutex, the terminal and its event.
-    fn makes<R: Abort>(&mut self, rt: &R) {
-        let made = Reply::Made(handle(5), WinNo::new(3));
-        self.says(rt, 1, Call::Event(false, false), Reply::Handle(handle(4)));
-        self.says(rt, 1, Call::Create(0, handles(&[1, 2, 3, 4])), made);
-        self.says(rt, 1, Call::Resume(handle(5), 0), Reply::Count(1));
-        self.says(rt, 1, Call::Pipe, Reply::Two(handle(6), handle(7)));
+    /// Takes a step, and answers whether that came of it.
+    fn goes(&mut self, step: &Step) -> bool {
+        self.stage.goes(step)
     }
 }
 
-/// The machine with both processes and both rows.
-fn open_scene<R: AllocGlobal + Abort>(rt: &R) -> Scene {
-    let opened = (
-        Stage::open(rt.alloc(), TWO_SLOTS),
-        read_script(rt.alloc(), TWO_SLOTS),
-        Own::new(rt.alloc()),
-    );
-    let mut scene = match opened {
-        (Ok(stage), Ok(script), Ok(own)) => Scene { stage, script, own },
-        _ => panic!(rt; "no scene"),
+/// The word at a place of the section is this one.
+fn has(place: u32, word: u64) -> Step {
+    Says(0, Call::Load(handle(1), place), Reply::Word(word))
+}
+
+/// The machine with both processes and both rows. Process 2 makes process 3 in slot 2, which has handles on the section,
+/// the mutex, the terminal and its event.
+fn open_scene<R: AllocGlobal + Abort>(rt: &R) -> Result<Scene, Fail> {
+    let mut scene = Scene {
+        stage: Stage::open(rt.alloc(), TWO_SLOTS)?,
+        script: read_script(rt.alloc(), TWO_SLOTS)?,
+        own: Own::new(rt.alloc())?,
     };
-    scene.makes(rt);
-    scene.gets_wake_pipe(rt, 2);
-    scene.store(rt, 0, 2);
-    scene.store(rt, 4, RUNS);
-    scene.store(rt, 5, SECOND);
-    scene
+    let made = Reply::Made(handle(5), WinNo::new(3));
+    let steps = [
+        Says(1, Call::Event(false, false), Reply::Handle(handle(4))),
+        Says(1, Call::Create(0, handles(&[1, 2, 3, 4])), made),
+        Says(1, Call::Resume(handle(5), 0), Reply::Count(1)),
+        Says(1, Call::Pipe, Reply::Two(handle(6), handle(7))),
+        Says(2, Call::Event(false, false), Reply::Handle(handle(5))),
+        Says(2, Call::Pipe, Reply::Two(handle(6), handle(7))),
+        Stores(0, 2),
+        Stores(4, RUNS),
+        Stores(5, SECOND),
+    ];
+    assert_eq!(rt; scene.try_steps(&steps), None);
+    Ok(scene)
 }
 
 /// A row.
@@ -152,8 +133,8 @@ fn row(number: u16) -> RowNo {
 }
 
 #[test]
-fn two_claims_at_a_time_hold_two_rows(rt: HostRuntime) {
-    let mut scene = open_scene(&rt);
+fn two_claims_at_a_time_hold_two_rows(rt: HostRuntime) -> Result<(), Fail> {
+    let mut scene = open_scene(&rt)?;
     let mut first = Claim::new();
     let mut second = Claim::new();
     let came = scene.run(1, &mut first, 1);
@@ -164,39 +145,41 @@ fn two_claims_at_a_time_hold_two_rows(rt: HostRuntime) {
         assert!(rt; scene.run(1, &mut first, 9).finished);
     }
     assert_eq!(rt; first.answer(), Some(row(3)));
-    scene.has(&rt, 7, HELD);
-    scene.has(&rt, 10, HELD);
-    scene.has(&rt, 0, 4);
+    let steps = [has(7, HELD), has(10, HELD), has(0, 4)];
+    assert_eq!(rt; scene.try_steps(&steps), None);
+    Ok(())
 }
 
 #[test]
-fn a_claim_finds_that_each_row_was_claimed(rt: HostRuntime) {
-    let mut scene = open_scene(&rt);
-    scene.store(&rt, 0, 4);
+fn a_claim_finds_that_each_row_was_claimed(rt: HostRuntime) -> Result<(), Fail> {
+    let mut scene = open_scene(&rt)?;
+    assert!(rt; scene.goes(&Stores(0, 4)));
     let mut claim = Claim::new();
     assert!(rt; scene.run(1, &mut claim, 1).finished);
     assert_eq!(rt; claim, Claim::NoRow);
     assert_eq!(rt; claim.answer(), None);
-    scene.has(&rt, 0, 5);
+    assert!(rt; scene.goes(&has(0, 5)));
+    Ok(())
 }
 
 #[test]
-fn a_claim_rests_where_another_holds_its_row(rt: HostRuntime) {
-    let mut scene = open_scene(&rt);
+fn a_claim_rests_where_another_holds_its_row(rt: HostRuntime) -> Result<(), Fail> {
+    let mut scene = open_scene(&rt)?;
     let mut claim = Claim::new();
     let came = scene.run(1, &mut claim, 2);
     assert_eq!(rt; claim, Claim::Holding(row(3), 0, HELD));
-    scene.store(&rt, 7, HELD);
+    assert!(rt; scene.goes(&Stores(7, HELD)));
     if !came.finished {
         assert!(rt; !scene.run(1, &mut claim, 9).finished);
     }
     assert_eq!(rt; claim, Claim::Rest);
-    scene.has(&rt, 7, HELD);
+    assert!(rt; scene.goes(&has(7, HELD)));
+    Ok(())
 }
 
 #[test]
-fn the_roster_mutex_goes_from_one_to_the_other(rt: HostRuntime) {
-    let mut scene = open_scene(&rt);
+fn the_roster_mutex_goes_from_one_to_the_other(rt: HostRuntime) -> Result<(), Fail> {
+    let mut scene = open_scene(&rt)?;
     let mut first = Hold::new();
     let mut second = Hold::new();
     assert!(rt; scene.run(1, &mut first, 1).finished);
@@ -210,29 +193,31 @@ fn the_roster_mutex_goes_from_one_to_the_other(rt: HostRuntime) {
     assert_eq!(rt; scene.stage.end(2), Some(WinNo::new(3)));
     let mut third = Hold::new();
     assert!(rt; scene.run(1, &mut third, 1).finished);
+    Ok(())
 }
 
 #[test]
-fn who_does_not_hold_the_roster_mutex_lets_nothing_go(rt: HostRuntime) {
-    let mut scene = open_scene(&rt);
+fn who_does_not_hold_the_roster_mutex_lets_nothing_go(rt: HostRuntime) -> Result<(), Fail> {
+    let mut scene = open_scene(&rt)?;
     assert!(rt; scene.run(1, &mut Hold::new(), 1).finished);
     let mut other = Let::new();
     assert!(rt; !scene.run(2, &mut other, 2).finished);
     assert_eq!(rt; other, Let::Rest);
-    assert_eq!(rt; scene.stage.call(2, 0, Call::WaitAny(handles(&[2]))), None);
+    assert!(rt; scene.goes(&Waits(2, Call::WaitAny(handles(&[2])))));
+    Ok(())
 }
 
 #[test]
-fn a_look_through_the_rows_finds_each_process(rt: HostRuntime) {
-    let mut scene = open_scene(&rt);
-    scene.store(&rt, 0, 3);
-    scene.store(&rt, 7, GONE);
+fn a_look_through_the_rows_finds_each_process(rt: HostRuntime) -> Result<(), Fail> {
+    let mut scene = open_scene(&rt)?;
+    let steps = [Stores(0, 3), Stores(7, GONE)];
+    assert_eq!(rt; scene.try_steps(&steps), None);
     let mut scan = Scan::new(row(4));
     assert!(rt; scene.run(1, &mut scan, 9).finished);
     assert_eq!(rt; scan.row(), Some(row(1)));
     let mut scan = Scan::Looking(row(2), row(3));
     let came = scene.run(1, &mut scan, 1);
-    scene.store(&rt, 4, ZOMBIE);
+    assert!(rt; scene.goes(&Stores(4, ZOMBIE)));
     if !came.finished {
         assert!(rt; scene.run(1, &mut scan, 9).finished);
     }
@@ -240,11 +225,12 @@ fn a_look_through_the_rows_finds_each_process(rt: HostRuntime) {
     let mut scan = Scan::Looking(row(3), row(3));
     assert!(rt; scene.run(1, &mut scan, 9).finished);
     assert_eq!(rt; scan, Scan::Past);
+    Ok(())
 }
 
 #[test]
-fn a_group_is_orphaned_when_its_parent_has_ended(rt: HostRuntime) {
-    let mut scene = open_scene(&rt);
+fn a_group_is_orphaned_when_its_parent_has_ended(rt: HostRuntime) -> Result<(), Fail> {
+    let mut scene = open_scene(&rt)?;
     let mut living = Orphaned::new(3, row(4));
     assert!(rt; scene.run(2, &mut living, 20).finished);
     assert_eq!(rt; living.answer(), Some(false));
@@ -252,28 +238,33 @@ fn a_group_is_orphaned_when_its_parent_has_ended(rt: HostRuntime) {
     // it counts, looks at two words of both rows, and at the group word of the parent
     let came = scene.run(2, &mut dying, 6);
     assert_eq!(rt; dying.answer(), None);
-    scene.store(&rt, 1, ZOMBIE);
+    assert!(rt; scene.goes(&Stores(1, ZOMBIE)));
     if !came.finished {
         assert!(rt; scene.run(2, &mut dying, 20).finished);
     }
     assert_eq!(rt; dying.answer(), Some(true));
+    Ok(())
 }
 
 #[test]
-fn a_wake_puts_a_byte_and_leaves_no_handle(rt: HostRuntime) {
-    let mut scene = open_scene(&rt);
+fn a_wake_puts_a_byte_and_leaves_no_handle(rt: HostRuntime) -> Result<(), Fail> {
+    let mut scene = open_scene(&rt)?;
     let mut wake = Wake::new(Poster::Main(row(1)), row(2));
     if !wake.is_finished() {
         assert!(rt; scene.run(1, &mut wake, 9).finished);
     }
-    scene.says(&rt, 2, Call::Get(handle(6)), Reply::Byte(0));
-    scene.says(&rt, 2, Call::Get(handle(6)), Reply::Empty);
-    scene.says(&rt, 1, Call::Event(true, true), Reply::Handle(handle(8)));
+    let steps = [
+        Says(2, Call::Get(handle(6)), Reply::Byte(0)),
+        Says(2, Call::Get(handle(6)), Reply::Empty),
+        Says(1, Call::Event(true, true), Reply::Handle(handle(8))),
+    ];
+    assert_eq!(rt; scene.try_steps(&steps), None);
+    Ok(())
 }
 
 #[test]
-fn a_wake_of_an_image_that_has_ended_is_done(rt: HostRuntime) {
-    let mut scene = open_scene(&rt);
+fn a_wake_of_an_image_that_has_ended_is_done(rt: HostRuntime) -> Result<(), Fail> {
+    let mut scene = open_scene(&rt)?;
     let mut wake = Wake::new(Poster::Main(row(1)), row(2));
     if !wake.is_finished() {
         // it has opened the image, which ends then
@@ -284,17 +275,19 @@ fn a_wake_of_an_image_that_has_ended_is_done(rt: HostRuntime) {
             assert!(rt; scene.run(1, &mut wake, 9).finished);
         }
     }
-    scene.says(&rt, 1, Call::Event(true, true), Reply::Handle(handle(8)));
+    assert!(rt; scene.goes(&Says(1, Call::Event(true, true), Reply::Handle(handle(8)))));
+    Ok(())
 }
 
 #[test]
-fn a_watcher_sets_the_event_of_its_main_thread(rt: HostRuntime) {
-    let mut scene = open_scene(&rt);
+fn a_watcher_sets_the_event_of_its_main_thread(rt: HostRuntime) -> Result<(), Fail> {
+    let mut scene = open_scene(&rt)?;
     let mut wake = Wake::new(Poster::Watcher(row(1)), row(1));
     if !wake.is_finished() {
         assert!(rt; scene.run(1, &mut wake, 1).finished);
     }
-    scene.says(&rt, 1, Call::WaitAny(handles(&[4])), Reply::Woke(0));
+    assert!(rt; scene.goes(&Says(1, Call::WaitAny(handles(&[4])), Reply::Woke(0))));
+    Ok(())
 }
 
 /// A signal for process 3, by process 2.
@@ -315,56 +308,62 @@ fn post_of(signal: Signal) -> Post
 }
 
 #[test]
-fn a_post_is_one_change_and_then_a_wake(rt: HostRuntime) {
-    let mut scene = open_scene(&rt);
+fn a_post_is_one_change_and_then_a_wake(rt: HostRuntime) -> Result<(), Fail> {
+    let mut scene = open_scene(&rt)?;
     let mut post = post_of(Signal::new(15));
     let came = scene.run(1, &mut post, 20);
     assert!(rt; came.finished);
     assert_eq!(rt; came.event, Some(kill(15)));
     assert_eq!(rt; post, Post::Finished(Posted::Done));
-    scene.has(&rt, 4, RUNS_TERM);
-    scene.says(&rt, 2, Call::Get(handle(6)), Reply::Byte(0));
+    let steps = [
+        has(4, RUNS_TERM),
+        Says(2, Call::Get(handle(6)), Reply::Byte(0)),
+    ];
+    assert_eq!(rt; scene.try_steps(&steps), None);
+    Ok(())
 }
 
 #[test]
-fn a_post_tries_again_with_the_word_that_it_finds(rt: HostRuntime) {
-    let mut scene = open_scene(&rt);
+fn a_post_tries_again_with_the_word_that_it_finds(rt: HostRuntime) -> Result<(), Fail> {
+    let mut scene = open_scene(&rt)?;
     let mut post = post_of(Signal::new(15));
     let came = scene.run(1, &mut post, 1);
     let interrupt = Call::CompareExchange(handle(1), 4, RUNS, RUNS_INT);
-    scene.says(&rt, 2, interrupt, Reply::Word(RUNS));
+    assert!(rt; scene.goes(&Says(2, interrupt, Reply::Word(RUNS))));
     if !came.finished {
         let lost = scene.run(1, &mut post, 1);
         assert_eq!(rt; lost.event, None);
-        scene.has(&rt, 4, RUNS_INT);
+        assert!(rt; scene.goes(&has(4, RUNS_INT)));
         if !lost.finished {
             assert_eq!(rt; scene.run(1, &mut post, 20).event, Some(kill(15)));
         }
     }
     assert_eq!(rt; post, Post::Finished(Posted::Done));
-    scene.has(&rt, 4, RUNS_INT_TERM);
+    assert!(rt; scene.goes(&has(4, RUNS_INT_TERM)));
+    Ok(())
 }
 
 #[test]
-fn a_post_to_a_process_that_dies_meanwhile_does_nothing(rt: HostRuntime) {
-    let mut scene = open_scene(&rt);
+fn a_post_to_a_process_that_dies_meanwhile_does_nothing(rt: HostRuntime) -> Result<(), Fail> {
+    let mut scene = open_scene(&rt)?;
     let mut post = post_of(Signal::new(15));
     let came = scene.run(1, &mut post, 1);
-    scene.store(&rt, 4, ZOMBIE);
+    assert!(rt; scene.goes(&Stores(4, ZOMBIE)));
     if !came.finished {
         let came = scene.run(1, &mut post, 20);
         assert!(rt; came.finished);
         assert_eq!(rt; came.event, None);
     }
     assert_eq!(rt; post, Post::Finished(Posted::Died));
-    scene.has(&rt, 4, ZOMBIE);
-    scene.says(&rt, 2, Call::Get(handle(6)), Reply::Empty);
+    let steps = [has(4, ZOMBIE), Says(2, Call::Get(handle(6)), Reply::Empty)];
+    assert_eq!(rt; scene.try_steps(&steps), None);
+    Ok(())
 }
 
 #[test]
-fn who_continues_a_process_tells_its_parent(rt: HostRuntime) {
-    let mut scene = open_scene(&rt);
-    scene.store(&rt, 4, STOPPED);
+fn who_continues_a_process_tells_its_parent(rt: HostRuntime) -> Result<(), Fail> {
+    let mut scene = open_scene(&rt)?;
+    assert!(rt; scene.goes(&Stores(4, STOPPED)));
     let mut post = post_of(Signal::new(18));
     let came = scene.run(1, &mut post, 30);
     assert!(rt; came.finished);
@@ -373,6 +372,7 @@ fn who_continues_a_process_tells_its_parent(rt: HostRuntime) {
         Some(Event::Notify(Acting::process(Pid::new(2))))
     );
     assert_eq!(rt; post, Post::Finished(Posted::Done));
-    scene.has(&rt, 4, CONTINUED);
-    scene.has(&rt, 1, FIRST_CHLD);
+    let steps = [has(4, CONTINUED), has(1, FIRST_CHLD)];
+    assert_eq!(rt; scene.try_steps(&steps), None);
+    Ok(())
 }
