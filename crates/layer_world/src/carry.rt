@@ -4,13 +4,13 @@ ghost use Rattle.std.specs.Prelude.{◌≡◌, ◌+◌, ◌<◌, ◌≤◌, None
 ghost use Rattle.win32_spec.specs.Driven.{DrivenBy};
 ghost use Rattle.win32_spec.specs.Run.{StepBy};
 ghost use Rattle.w32_machine.specs.Contract.{keys_of, key_lines};
-ghost use Rattle.w32_machine.specs.DrivenTurns.{called_by, came_by, event_by};
+ghost use Rattle.w32_driven.specs.DrivenTurns.{called_by, came_by, event_by};
 ghost use Rattle.w32_machine.specs.Ending.{outcome_of_end};
 ghost use Rattle.world_spec.specs.SeenStep.{IsTaken};
 ghost use Rattle.layer_world.specs.World.{entry_to};
 
 use w32_base::{Directive, Entry, Outcome, Whole, WinNo};
-use w32_machine::{Driven, DrivenTurn};
+use w32_driven::{Driven, DrivenTurn};
 
 // The entry of a turn.
 fn entry_of_turn(d: Directive, turned: DrivenTurn) -> Entry

@@ -15,7 +15,7 @@ use script_spec::{ScheduleLine, Script};
 use std::alloc::Global;
 use std::marker::Model;
 use w32_base::{Directive, Entry, Journal, Memory, Outcome, RowNo, Slot, ThreadNo};
-use w32_machine::Driven;
+use w32_driven::Driven;
 use world_spec::RelyGuarantee;
 
 /// A machine that is driven by parts, with the journal of the directives that were carried out. A contract sees the

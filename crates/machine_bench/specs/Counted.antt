@@ -10,7 +10,7 @@ use Rattle.win32_spec.specs.Run.{StepBy}
 use Rattle.win32_spec.specs.StepLaws.{wellformed-step}
 use Rattle.win32_spec.specs.WellFormed.{IsWellFormed}
 use Rattle.win32_spec.specs.MemoryEffects.{HaveRegisters}
-use Rattle.w32_machine.specs.Driving.{Driving}
+use Rattle.w32_driven.specs.Driving.{Driving}
 use Rattle.machine_stage.specs.Numbering.{next_most}
 use Rattle.machine_stage.specs.Staged.{IsStaged, staged_opening}
 use Rattle.machine_bench.specs.declared.worker.Worker.{Worker}

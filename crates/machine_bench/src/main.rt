@@ -13,7 +13,7 @@ use cyg_script::{Script, read_script};
 use std::alloc::Global;
 use std::env;
 use w32_base::{Slot, ThreadNo};
-use w32_machine::Driven;
+use w32_driven::Driven;
 use worker::Worker;
 
 /// How many slots there are where no argument says it.

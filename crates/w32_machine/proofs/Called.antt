@@ -19,12 +19,12 @@ use Rattle.win32_spec.specs.KeepLaws.{wellformed-effect}
 use Rattle.w32_handles.specs.Table.{object_at}
 use Rattle.w32_machine.specs.Contract.{IsCaller}
 use Rattle.w32_machine.specs.declared.caller.Caller.{Caller}
-use Rattle.w32_machine.specs.declared.kind.Kind.{Kind}
+use Rattle.w32_kinds.specs.declared.kind.Kind.{Kind}
 use Rattle.w32_machine.specs.declared.machine.Machine.TheInside.{Inside}
-use Rattle.w32_machine.specs.Kinds.{Exchanges, Increases, Sets, Resets, Releases, Puts, Gets}
+use Rattle.w32_kinds.specs.Kinds.{Exchanges, Increases, Sets, Resets, Releases, Puts, Gets}
 use Rattle.w32_machine.specs.Running.{Running}
 use Rattle.w32_machine.specs.View.{view_of}
-use Rattle.w32_machine.specs.declared.kind.Kind.TheVariants as kind
+use Rattle.w32_kinds.specs.declared.kind.Kind.TheVariants as kind
 use Rattle.w32_machine.specs.Sound.{IsKind, IsSound}
 use Rattle.w32_machine.proofs.PipeSteps.{end_named, put-step, get-step, put-keeps, get-keeps, counts}
 use Rattle.w32_machine.proofs.Slots.{live, caller-at}

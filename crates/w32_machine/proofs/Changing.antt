@@ -18,10 +18,11 @@ use Rattle.w32_process.specs.Places.{Place}
 use Rattle.w32_process.specs.Table.{number_at}
 use Rattle.w32_machine.specs.Contract.{IsCaller}
 use Rattle.w32_machine.specs.declared.caller.Caller.{Caller}
-use Rattle.w32_machine.specs.declared.kind.Kind.{Kind}
+use Rattle.w32_kinds.specs.declared.kind.Kind.{Kind}
 use Rattle.w32_machine.specs.declared.machine.Machine.TheInside.{Inside}
 use Rattle.w32_machine.specs.Running.{Running}
-use Rattle.w32_machine.specs.View.{shown, view_of}
+use Rattle.w32_kinds.specs.Shown.{shown}
+use Rattle.w32_machine.specs.View.{view_of}
 use Rattle.w32_machine.specs.Sound.{IsKind, IsHeld, IsSound}
 use Rattle.w32_machine.proofs.Slots.{caller-at, handles_at, its_facts}
 

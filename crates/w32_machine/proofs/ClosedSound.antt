@@ -23,10 +23,11 @@ use Rattle.w32_process.specs.Table as processes
 use Rattle.w32_process.specs.Table.{place_at, number_at}
 use Rattle.w32_process.specs.Sound as process_sound
 use Rattle.w32_process.specs.SoundLaws.{IsSound-same, IsSound-forget, within_slots}
-use Rattle.w32_machine.specs.declared.kind.Kind.{Kind}
-use Rattle.w32_machine.specs.declared.kind.Kind.TheVariants as kind
+use Rattle.w32_kinds.specs.declared.kind.Kind.{Kind}
+use Rattle.w32_kinds.specs.declared.kind.Kind.TheVariants as kind
 use Rattle.w32_machine.specs.declared.machine.Machine.TheInside.{Inside}
-use Rattle.w32_machine.specs.View.{shown, view_of}
+use Rattle.w32_kinds.specs.Shown.{shown}
+use Rattle.w32_machine.specs.View.{view_of}
 use Rattle.w32_machine.specs.Sound.{IsKind, IsHeld, IsSound}
 use Rattle.w32_machine.specs.Ending.{end_by, kind_without, kept_without, LeavesOne, WentWith, Forgets}
 use Rattle.w32_machine.proofs.Slots.{its_process, found, handles_at}

@@ -10,7 +10,7 @@ use Rattle.w32_handles.specs.Table.{Table, object_at, freed}
 use Rattle.w32_process.specs.Table as processes
 use Rattle.w32_process.specs.Table.{place_at, number_at}
 use Rattle.w32_machine.specs.declared.caller.Caller.{Caller}
-use Rattle.w32_machine.specs.declared.kind.Kind.{Kind}
+use Rattle.w32_kinds.specs.declared.kind.Kind.{Kind}
 use Rattle.w32_machine.specs.declared.machine.Machine.TheInside.{Inside}
 use Rattle.w32_machine.specs.Contract.{IsCaller}
 use Rattle.w32_machine.specs.Running.{Running}

@@ -24,11 +24,12 @@ use Rattle.w32_process.specs.FoundLaws.{is_live-at}
 use Rattle.w32_process.specs.ClosedLaws.{kept-known, closed-stays, closed-drops, closed-forgets}
 use Rattle.w32_sync.specs.declared.PipeEnd.{PipeEnd}
 use Rattle.w32_sync.specs.declared.PipeEnd.TheVariants.{Read, Write}
-use Rattle.w32_machine.specs.declared.kind.Kind.{Kind}
-use Rattle.w32_machine.specs.declared.kind.Kind.TheVariants as kind
+use Rattle.w32_kinds.specs.declared.kind.Kind.{Kind}
+use Rattle.w32_kinds.specs.declared.kind.Kind.TheVariants as kind
 use Rattle.w32_machine.specs.declared.machine.Machine.TheInside.{Inside}
-use Rattle.w32_machine.specs.Kinds.{IsProcess, ends_on}
-use Rattle.w32_machine.specs.View.{shown, posted_in, placed_in, view_of}
+use Rattle.w32_kinds.specs.Kinds.{IsProcess, ends_on}
+use Rattle.w32_kinds.specs.Shown.{shown}
+use Rattle.w32_machine.specs.View.{posted_in, placed_in, view_of}
 use Rattle.w32_machine.specs.Sound.{IsKind, IsHeld, IsSound}
 use Rattle.w32_machine.specs.Ending.{end_by, kind_without, kept_without, HasHolder, LeavesOne, WentWith, MayForget}
 use Rattle.w32_machine.specs.Ending.{Forgets}

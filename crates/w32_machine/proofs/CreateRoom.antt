@@ -19,11 +19,12 @@ use Rattle.w32_handles.specs.Counted.{holders_on, all_holders_on}
 use Rattle.w32_handles.specs.BoundLaws.{holders_on-le}
 use Rattle.w32_process.specs.Table.{place_at, number_at}
 use Rattle.w32_sync.specs.declared.PipeEnd.TheVariants.{Read, Write}
-use Rattle.w32_machine.specs.declared.kind.Kind.{Kind}
-use Rattle.w32_machine.specs.declared.kind.Kind.TheVariants as kind
+use Rattle.w32_kinds.specs.declared.kind.Kind.{Kind}
+use Rattle.w32_kinds.specs.declared.kind.Kind.TheVariants as kind
 use Rattle.w32_machine.specs.declared.machine.Machine.TheInside.{Inside}
-use Rattle.w32_machine.specs.Kinds.{ends_on}
-use Rattle.w32_machine.specs.View.{shown, posted_in, placed_in, view_of}
+use Rattle.w32_kinds.specs.Kinds.{ends_on}
+use Rattle.w32_kinds.specs.Shown.{shown}
+use Rattle.w32_machine.specs.View.{posted_in, placed_in, view_of}
 use Rattle.w32_machine.specs.Sound.{IsKind, IsSound}
 use Rattle.w32_machine.specs.Creating.{HaveRoom}
 use Rattle.w32_machine.proofs.Slots.{rising_at}

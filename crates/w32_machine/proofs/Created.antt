@@ -27,10 +27,11 @@ use Rattle.w32_process.specs.SoundLaws.{number_at-set_other}
 use Rattle.w32_process.specs.MadeLaws.{KnowsMade}
 use Rattle.w32_process.specs.StateMade.{state-made}
 use Rattle.w32_process.specs.ClosedLaws.{state_of}
-use Rattle.w32_machine.specs.declared.kind.Kind.{Kind}
-use Rattle.w32_machine.specs.declared.kind.Kind.TheVariants as kind
+use Rattle.w32_kinds.specs.declared.kind.Kind.{Kind}
+use Rattle.w32_kinds.specs.declared.kind.Kind.TheVariants as kind
 use Rattle.w32_machine.specs.declared.machine.Machine.TheInside.{Inside}
-use Rattle.w32_machine.specs.View.{shown, posted_in, placed_in, view_of}
+use Rattle.w32_kinds.specs.Shown.{shown}
+use Rattle.w32_machine.specs.View.{posted_in, placed_in, view_of}
 use Rattle.w32_machine.specs.Sound.{IsSound}
 use Rattle.w32_machine.specs.Creating.{kind_with, kept_with, HoldsEach, opened}
 use Rattle.w32_machine.proofs.Slots.{handles_at}

@@ -36,11 +36,12 @@ use Rattle.w32_process.specs.SoundLaws.{IsSound-same}
 use Rattle.w32_process.specs.FoundLaws.{process_of-next}
 use Rattle.w32_process.specs.MadeLaws.{IsSound-made}
 use Rattle.w32_process.specs.StateMade.{lowest-free}
-use Rattle.w32_machine.specs.declared.kind.Kind.{Kind}
-use Rattle.w32_machine.specs.declared.kind.Kind.TheVariants as kind
+use Rattle.w32_kinds.specs.declared.kind.Kind.{Kind}
+use Rattle.w32_kinds.specs.declared.kind.Kind.TheVariants as kind
 use Rattle.w32_machine.specs.declared.machine.Machine.TheInside.{Inside}
 use Rattle.w32_machine.specs.Contract.{key_lines}
-use Rattle.w32_machine.specs.View.{shown, posted_in, placed_in, view_of}
+use Rattle.w32_kinds.specs.Shown.{shown}
+use Rattle.w32_machine.specs.View.{posted_in, placed_in, view_of}
 use Rattle.w32_machine.specs.Sound.{IsKind, IsHeld, IsSound}
 use Rattle.w32_machine.specs.Creating.{kind_with, kept_with, HoldsEach, opened}
 use Rattle.w32_machine.proofs.Slots.{its_process, found}

@@ -17,11 +17,12 @@ use Rattle.w32_process.specs.RoomLaws.{objects-room}
 use Rattle.w32_process.specs.StateMade.{lowest-free}
 use Rattle.w32_machine.specs.Contract.{IsCaller}
 use Rattle.w32_machine.specs.declared.caller.Caller.{Caller}
-use Rattle.w32_machine.specs.declared.kind.Kind.{Kind}
-use Rattle.w32_machine.specs.declared.kind.Kind.TheVariants as kind
+use Rattle.w32_kinds.specs.declared.kind.Kind.{Kind}
+use Rattle.w32_kinds.specs.declared.kind.Kind.TheVariants as kind
 use Rattle.w32_machine.specs.declared.machine.Machine.TheInside.{Inside}
 use Rattle.w32_machine.specs.Running.{Running}
-use Rattle.w32_machine.specs.View.{shown, posted_in, placed_in, view_of}
+use Rattle.w32_kinds.specs.Shown.{shown}
+use Rattle.w32_machine.specs.View.{posted_in, placed_in, view_of}
 use Rattle.w32_machine.specs.Sound.{IsSound}
 use Rattle.w32_machine.specs.Creating.{HoldsEach, HaveRoom, opened}
 use Rattle.w32_machine.proofs.Slots.{caller-at, handles_at, is_there, number_in-at}

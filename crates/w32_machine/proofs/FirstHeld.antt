@@ -14,12 +14,12 @@ use Rattle.win32_spec.specs.State.{Process}
 use Rattle.w32_handles.specs.Table.{HeldObject, Table, object_at}
 use Rattle.w32_process.specs.Places.{Place}
 use Rattle.w32_process.specs.Table.{number_at}
-use Rattle.w32_machine.specs.declared.kind.Kind.{Kind}
-use Rattle.w32_machine.specs.declared.kind.Kind.TheVariants as kind
-use Rattle.w32_machine.specs.declared.machine.opening.numbers.Numbers.{Numbers}
-use Rattle.w32_machine.specs.Opened.{opening_numbers, slot_of, kept_shown, opening_at}
+use Rattle.w32_kinds.specs.declared.kind.Kind.{Kind}
+use Rattle.w32_kinds.specs.declared.kind.Kind.TheVariants as kind
+use Rattle.w32_opening.specs.declared.numbers.Numbers.{Numbers}
+use Rattle.w32_opening.specs.Opened.{opening_numbers, slot_of, kept_shown, opening_at}
 use Rattle.w32_machine.specs.Sound.{IsKind, IsHeld}
-use Rattle.w32_machine.specs.View.{shown}
+use Rattle.w32_kinds.specs.Shown.{shown}
 
 -- whether a handle names this, as a number
 abbrev one : ℕ → ℕ → ℕ

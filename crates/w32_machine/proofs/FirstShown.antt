@@ -17,10 +17,11 @@ use Rattle.w32_handles.specs.ShownLaws.{rising-objects, object_of-place, are_sam
 use Rattle.w32_handles.specs.Table.{HeldObject, Table, object_at}
 use Rattle.w32_process.specs.Places.{empty_place}
 use Rattle.w32_process.specs.Processes.{with_processes_from, processes_of}
-use Rattle.w32_machine.specs.declared.kind.Kind.{Kind}
-use Rattle.w32_machine.specs.declared.machine.opening.numbers.Numbers.{Numbers}
-use Rattle.w32_machine.specs.Opened.{opening_numbers, opened_table, kept_shown, opening_at}
-use Rattle.w32_machine.specs.View.{shown, posted_in}
+use Rattle.w32_kinds.specs.declared.kind.Kind.{Kind}
+use Rattle.w32_opening.specs.declared.numbers.Numbers.{Numbers}
+use Rattle.w32_opening.specs.Opened.{opening_numbers, opened_table, kept_shown, opening_at}
+use Rattle.w32_kinds.specs.Shown.{shown}
+use Rattle.w32_machine.specs.View.{posted_in}
 
 -- The objects.
 abbrev object_part : Option (Object × ℕ × ℕ) → Option Object

@@ -21,14 +21,15 @@ use Rattle.w32_process.specs.Processes.{processes_of}
 use Rattle.w32_process.specs.Sound as processes
 use Rattle.w32_process.specs.Table as process_table
 use Rattle.w32_process.specs.Table.{number_at}
-use Rattle.w32_machine.specs.declared.kind.Kind.{Kind}
+use Rattle.w32_kinds.specs.declared.kind.Kind.{Kind}
 use Rattle.w32_machine.specs.declared.machine.Machine.TheInside.{Inside}
-use Rattle.w32_machine.specs.declared.machine.opening.numbers.Numbers.{Numbers}
+use Rattle.w32_opening.specs.declared.numbers.Numbers.{Numbers}
 use Rattle.w32_machine.specs.Contract.{key_lines}
-use Rattle.w32_machine.specs.Opened.{opening_numbers, opened_host, opened_place, IsOpenedTable, kept_shown}
-use Rattle.w32_machine.specs.Opened.{opening_at}
+use Rattle.w32_opening.specs.Opened.{opening_numbers, opened_host, opened_place, IsOpenedTable, kept_shown}
+use Rattle.w32_opening.specs.Opened.{opening_at}
 use Rattle.w32_machine.specs.Sound.{IsHeld, IsSound}
-use Rattle.w32_machine.specs.View.{shown, posted_in, placed_in, view_of}
+use Rattle.w32_kinds.specs.Shown.{shown}
+use Rattle.w32_machine.specs.View.{posted_in, placed_in, view_of}
 use Rattle.w32_machine.proofs.FirstHeld.{first-held}
 use Rattle.w32_machine.proofs.FirstShown.{posts-opening, shows-objects, shows-processes}
 

@@ -34,13 +34,14 @@ use Rattle.w32_sync.specs.declared.pipe.PipeEnd.TheVariants.{Read, Write}
 use Rattle.w32_machine.specs.Contract.{IsCaller}
 use Rattle.w32_machine.specs.Ending.{end_by}
 use Rattle.w32_machine.specs.Handing.{held_more, held_by, MayBeHeld}
-use Rattle.w32_machine.specs.Kinds.{ends_on, with_ends}
+use Rattle.w32_kinds.specs.Kinds.{ends_on, with_ends}
 use Rattle.w32_machine.specs.declared.caller.Caller.{Caller}
-use Rattle.w32_machine.specs.declared.kind.Kind.{Kind}
-use Rattle.w32_machine.specs.declared.kind.Kind.TheVariants as kind
+use Rattle.w32_kinds.specs.declared.kind.Kind.{Kind}
+use Rattle.w32_kinds.specs.declared.kind.Kind.TheVariants as kind
 use Rattle.w32_machine.specs.declared.machine.Machine.TheInside.{Inside}
 use Rattle.w32_machine.specs.Running.{Running}
-use Rattle.w32_machine.specs.View.{shown, posted_in, placed_in, view_of}
+use Rattle.w32_kinds.specs.Shown.{shown}
+use Rattle.w32_machine.specs.View.{posted_in, placed_in, view_of}
 use Rattle.w32_machine.specs.Sound.{IsKind, IsHeld, IsSound}
 use Rattle.w32_machine.proofs.Slots.{its_process, found, caller-at, handles_at}
 use Rattle.w32_machine.proofs.Called.{formed-effect}

@@ -8,9 +8,9 @@ use Rattle.win32_spec.specs.Lookup.{object_number}
 use Rattle.win32_spec.specs.LookupLaws.{same, differs}
 use Rattle.w32_handles.specs.Table.{HeldObject, Table, object_at, Changes}
 use Rattle.w32_sync.specs.declared.PipeEnd.TheVariants.{Read, Write}
-use Rattle.w32_machine.specs.declared.kind.Kind.{Kind}
-use Rattle.w32_machine.specs.declared.kind.Kind.TheVariants as kind
-use Rattle.w32_machine.specs.Kinds.{ends_on, with_ends}
+use Rattle.w32_kinds.specs.declared.kind.Kind.{Kind}
+use Rattle.w32_kinds.specs.declared.kind.Kind.TheVariants as kind
+use Rattle.w32_kinds.specs.Kinds.{ends_on, with_ends}
 use Rattle.w32_machine.specs.Ending.{end_by}
 use Rattle.w32_machine.specs.Creating.{kind_with, kept_with, HoldsEach, HaveRoom}
 use Rattle.w32_machine.specs.Handing.{held_more, held_by, MayBeHeld}

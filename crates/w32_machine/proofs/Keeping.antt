@@ -27,11 +27,12 @@ use Rattle.w32_process.specs.Sound as processes
 use Rattle.w32_process.specs.SoundLaws.{within_slots}
 use Rattle.w32_process.specs.ChangeLaws.{processes-with_posted}
 use Rattle.w32_process.specs.ThreadLaws.{thread_shown, thread_in-threads}
-use Rattle.w32_machine.specs.declared.kind.Kind.{Kind}
-use Rattle.w32_machine.specs.declared.kind.Kind.TheVariants as kind
+use Rattle.w32_kinds.specs.declared.kind.Kind.{Kind}
+use Rattle.w32_kinds.specs.declared.kind.Kind.TheVariants as kind
 use Rattle.w32_machine.specs.declared.machine.Machine.TheInside.{Inside}
 use Rattle.w32_machine.specs.Running.{Running}
-use Rattle.w32_machine.specs.View.{shown, posted_in, placed_in, view_of}
+use Rattle.w32_kinds.specs.Shown.{shown}
+use Rattle.w32_machine.specs.View.{posted_in, placed_in, view_of}
 use Rattle.w32_machine.specs.Sound.{IsKind, IsSound}
 use Rattle.w32_machine.proofs.Slots.{its_process, found_in, live, number_in-at}
 

@@ -10,10 +10,10 @@ use Rattle.win32_spec.specs.Lookup.{with_object}
 use Rattle.win32_spec.specs.Named.{object_number_by, object_by, section_named, event_named, mutex_named, Gives}
 use Rattle.win32_spec.specs.WordCalls.{word_reply, after_exchange, after_add, ExchangeStep, AddStep}
 use Rattle.win32_spec.specs.ObjectCalls.{SetStep, ResetStep, ReleaseStep}
-use Rattle.w32_machine.specs.declared.kind.Kind.{Kind}
-use Rattle.w32_machine.specs.declared.kind.Kind.TheVariants as kind
-use Rattle.w32_machine.specs.Kinds.{Exchanges, Increases, Sets, Resets, Releases}
-use Rattle.w32_machine.specs.View.{shown}
+use Rattle.w32_kinds.specs.declared.kind.Kind.{Kind}
+use Rattle.w32_kinds.specs.declared.kind.Kind.TheVariants as kind
+use Rattle.w32_kinds.specs.Kinds.{Exchanges, Increases, Sets, Resets, Releases}
+use Rattle.w32_kinds.specs.Shown.{shown}
 use Rattle.w32_machine.specs.Sound.{IsKind}
 use Rattle.w32_machine.proofs.Changing.{KeepsKind}
 

@@ -10,10 +10,11 @@ use Rattle.w32_process.specs.Table as processes
 use Rattle.w32_process.specs.declared.kept.Kept.{Kept}
 use Rattle.w32_process.specs.Places.{Place}
 use Rattle.w32_process.specs.Table.{place_at, number_at, code_of, without_kept}
-use Rattle.w32_machine.specs.declared.kind.Kind.{Kind}
+use Rattle.w32_kinds.specs.declared.kind.Kind.{Kind}
 use Rattle.w32_machine.specs.declared.machine.Machine.TheInside.{Inside}
 use Rattle.w32_machine.specs.Running.{Running}
-use Rattle.w32_machine.specs.View.{shown, view_of}
+use Rattle.w32_kinds.specs.Shown.{shown}
+use Rattle.w32_machine.specs.View.{view_of}
 use Rattle.w32_machine.specs.Sound.{IsSound}
 use Rattle.w32_machine.specs.Ending.{left_kept}
 use Rattle.w32_machine.proofs.Slots.{is_there}

@@ -27,11 +27,12 @@ use Rattle.w32_process.specs.TableLaws.{code_of-kept}
 use Rattle.w32_process.specs.EndLaws.{kept_at-push_same, IsSound-with_end}
 use Rattle.w32_process.specs.LastLaws.{ended-kept, ended-forgotten}
 use Rattle.w32_process.specs.RoomLaws.{kept-few}
-use Rattle.w32_machine.specs.declared.kind.Kind.{Kind}
-use Rattle.w32_machine.specs.declared.kind.Kind.TheVariants as kind
+use Rattle.w32_kinds.specs.declared.kind.Kind.{Kind}
+use Rattle.w32_kinds.specs.declared.kind.Kind.TheVariants as kind
 use Rattle.w32_machine.specs.declared.machine.Machine.TheInside.{Inside}
-use Rattle.w32_machine.specs.Kinds.{kind_left_by}
-use Rattle.w32_machine.specs.View.{shown, posted_in, placed_in, view_of}
+use Rattle.w32_kinds.specs.Kinds.{kind_left_by}
+use Rattle.w32_kinds.specs.Shown.{shown}
+use Rattle.w32_machine.specs.View.{posted_in, placed_in, view_of}
 use Rattle.w32_machine.specs.Sound.{IsKind, IsHeld, IsSound}
 use Rattle.w32_machine.specs.Ending.{left_kept}
 use Rattle.w32_machine.proofs.Slots.{its_process, found, live}

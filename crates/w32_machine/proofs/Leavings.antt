@@ -14,9 +14,9 @@ use Rattle.w32_handles.specs.Table.{HeldObject, Table, object_at, Changes, with_
 use Rattle.w32_handles.specs.Shown.{object_shown, objects_of}
 use Rattle.w32_handles.specs.ShownLaws.{rising-objects, object_of-named}
 use Rattle.w32_handles.specs.PlaceLaws.{half, Changes-with_object}
-use Rattle.w32_machine.specs.declared.kind.Kind.{Kind}
-use Rattle.w32_machine.specs.Kinds.{kind_left_by}
-use Rattle.w32_machine.specs.View.{shown}
+use Rattle.w32_kinds.specs.declared.kind.Kind.{Kind}
+use Rattle.w32_kinds.specs.Kinds.{kind_left_by}
+use Rattle.w32_kinds.specs.Shown.{shown}
 use Rattle.w32_machine.specs.Ending.{left_kept}
 use Rattle.w32_machine.proofs.Changing.{lent}
 

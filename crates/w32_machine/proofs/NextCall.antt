@@ -103,6 +103,3 @@ carries-out now slot t by call next r new step = (
         (subst (λ c. CallStep now.script now.win32 by.process by.thread c r new) next.posted step));
   },
 )
-
-pub some_there : {X : Type 0} {o : Option X} {x : X} → o ≡ Some x → IsSome o
-some_there e = rw e refl

@@ -27,10 +27,9 @@ use Rattle.w32_machine.specs.Running.{Running}
 use Rattle.w32_machine.specs.View.{posted_in, placed_in, view_of}
 use Rattle.w32_machine.specs.Sound.{IsSound}
 use Rattle.w32_machine.proofs.Slots.{live}
-use Rattle.w32_machine.specs.Driving.{IsAnswer}
+use Rattle.w32_machine.specs.Lent.{IsAnswer}
 use Rattle.w32_machine.proofs.Keeping.{sound-over}
-use Rattle.w32_machine.proofs.Numbers.{change-here}
-use Rattle.w32_machine.proofs.PartTurns.{number_found}
+use Rattle.w32_machine.specs.NumberLaws.{change-here, number_found}
 
 module _ (m : Inside) (sound : IsSound m) (slot w : ℕ) (at : number_at m.processes.slots slot ≡ Some w) (own : Own)
   where

@@ -14,10 +14,10 @@ use Rattle.win32_spec.specs.WordCalls.{word_reply, LoadStep}
 use Rattle.w32_process.specs.Places.{Place}
 use Rattle.w32_sync.specs.declared.PipeEnd.{PipeEnd}
 use Rattle.w32_sync.specs.declared.PipeEnd.TheVariants.{Read, Write}
-use Rattle.w32_machine.specs.declared.kind.Kind.{Kind}
-use Rattle.w32_machine.specs.declared.kind.Kind.TheVariants as kind
-use Rattle.w32_machine.specs.Kinds.{Loads, Puts, Gets}
-use Rattle.w32_machine.specs.View.{shown}
+use Rattle.w32_kinds.specs.declared.kind.Kind.{Kind}
+use Rattle.w32_kinds.specs.declared.kind.Kind.TheVariants as kind
+use Rattle.w32_kinds.specs.Kinds.{Loads, Puts, Gets}
+use Rattle.w32_kinds.specs.Shown.{shown}
 use Rattle.w32_machine.specs.Sound.{IsKind}
 use Rattle.w32_machine.proofs.Changing.{KeepsKind}
 use Rattle.w32_machine.proofs.KindSteps.{same-keeps}

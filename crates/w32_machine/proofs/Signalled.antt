@@ -12,11 +12,12 @@ use Rattle.w32_handles.specs.Table as table
 use Rattle.w32_process.specs.FoundLaws.{slot_of, is_live-at, is_live-aside}
 use Rattle.w32_machine.specs.Contract.{IsCaller, LivesOnlyIn}
 use Rattle.w32_machine.specs.declared.caller.Caller.{Caller}
-use Rattle.w32_machine.specs.declared.kind.Kind.{Kind}
-use Rattle.w32_machine.specs.declared.kind.Kind.TheVariants as kind
+use Rattle.w32_kinds.specs.declared.kind.Kind.{Kind}
+use Rattle.w32_kinds.specs.declared.kind.Kind.TheVariants as kind
 use Rattle.w32_machine.specs.declared.machine.Machine.TheInside.{Inside}
 use Rattle.w32_machine.specs.Running.{Running}
-use Rattle.w32_machine.specs.View.{shown, posted_in, placed_in, view_of}
+use Rattle.w32_kinds.specs.Shown.{shown}
+use Rattle.w32_machine.specs.View.{posted_in, placed_in, view_of}
 use Rattle.w32_machine.specs.Sound.{IsKind, IsSound}
 use Rattle.w32_machine.proofs.Changing.{object_is, kind_is}
 use Rattle.w32_machine.proofs.PipeSteps.{counts}

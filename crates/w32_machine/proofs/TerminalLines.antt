@@ -19,11 +19,12 @@ use Rattle.win32_spec.specs.WellFormed.{IsWellFormed}
 use Rattle.w32_handles.specs.Table.{HeldObject, object_at}
 use Rattle.w32_machine.specs.Contract.{IsCaller, key_lines}
 use Rattle.w32_machine.specs.declared.caller.Caller.{Caller}
-use Rattle.w32_machine.specs.declared.kind.Kind.{Kind}
+use Rattle.w32_kinds.specs.declared.kind.Kind.{Kind}
 use Rattle.w32_machine.specs.declared.machine.Machine.TheInside.{Inside}
 use Rattle.w32_machine.specs.Running.{Running}
-use Rattle.w32_machine.specs.Terminals.{terminal_of, OfTerminal, Becomes, Presses, TakesLine, LineStep}
-use Rattle.w32_machine.specs.View.{shown, view_of}
+use Rattle.w32_kinds.specs.Terminals.{terminal_of, OfTerminal, Becomes, Presses, TakesLine, LineStep}
+use Rattle.w32_kinds.specs.Shown.{shown}
+use Rattle.w32_machine.specs.View.{view_of}
 use Rattle.w32_machine.specs.Sound.{IsSound}
 use Rattle.w32_machine.proofs.Changing.{object_is, changed, unchanged}
 use Rattle.w32_machine.proofs.TerminalSteps.{named-terminal, becomes, terminal-sound, same-sound}

@@ -1,11 +1,8 @@
 -- The threads of a slot, by the tables.
-use Rattle.std.proofs.Common.{◌≡◌, ◌≢◌, ◌∙◌, ◌↔◌, ℕ, Bool, true, false, not, nat_eq, Option, Some, None, IsSome, IsTrue}
+use Rattle.std.proofs.Common.{◌≡◌, ◌≢◌, ◌∙◌, ◌↔◌, ℕ, true, false, Option, Some, None, IsSome, IsTrue}
 use Rattle.std.proofs.Common.{MatchOption, refl, sym, ap}
-use Rattle.std.proofs.lemmas.Bool.{eqb-true}
-use Rattle.std.specs.Option.{option_eq}
 use Rattle.win32_spec.specs.State.{Process}
 use Rattle.win32_spec.specs.Lookup.{process_in, thread_of, thread_at, number_of, number_in}
-use Rattle.win32_spec.specs.LookupLaws.{same}
 use Rattle.w32_process.specs.Table.{number_at, count_at}
 use Rattle.w32_process.specs.TableLaws.{IsInNone}
 use Rattle.w32_process.specs.ThreadLaws.{thread_shown}
@@ -57,27 +54,3 @@ some-iff o s = (λ e. s, λ s. refl)
 pub none-iff : {X : Type 0} (o : Option X) → o ≡ None → IsTrue false ↔ IsSome o
 none-iff None e = (λ f. absurd (cc), λ s. absurd (cc))
 none-iff (Some x) e = absurd (cc)
-
--- a number that was compared
-is-number : (o : Option ℕ) (w : ℕ) → option_eq nat_eq o (Some w) ≡ true → o ≡ Some w
-is-number None w e = absurd (cc)
-is-number (Some v) w e = ap (λ n. Some n) (eqb-true v w e)
-
-is-other : (o : Option ℕ) (w : ℕ) → option_eq nat_eq o (Some w) ≡ false → o ≢ Some w
-is-other o w e f =
-    let s = same w w refl in
-    let g : option_eq nat_eq o (Some w) ≡ true = rw f s in absurd (cc)
-
-pub is-alike : (o : Option ℕ) (w : ℕ) → not (option_eq nat_eq o (Some w)) ≡ false → o ≡ Some w
-is-alike o w e = is-number o w (by_test (option_eq nat_eq o (Some w)) e)
-  where
-    by_test : (b : Bool) → not b ≡ false → b ≡ true
-    by_test true f = refl
-    by_test false f = absurd (cc)
-
-pub is-unlike : (o : Option ℕ) (w : ℕ) → not (option_eq nat_eq o (Some w)) ≡ true → o ≢ Some w
-is-unlike o w e = is-other o w (by_test (option_eq nat_eq o (Some w)) e)
-  where
-    by_test : (b : Bool) → not b ≡ true → b ≡ false
-    by_test true f = absurd (cc)
-    by_test false f = refl

@@ -17,12 +17,13 @@ use Rattle.win32_spec.specs.State.{Object, Win32State}
 use Rattle.w32_handles.specs.Table.{object_at}
 use Rattle.w32_machine.specs.Contract.{IsCaller}
 use Rattle.w32_machine.specs.declared.caller.Caller.{Caller}
-use Rattle.w32_machine.specs.declared.kind.Kind.{Kind}
-use Rattle.w32_machine.specs.declared.kind.Kind.TheVariants as kind
+use Rattle.w32_kinds.specs.declared.kind.Kind.{Kind}
+use Rattle.w32_kinds.specs.declared.kind.Kind.TheVariants as kind
 use Rattle.w32_machine.specs.declared.machine.Machine.TheInside.{Inside}
-use Rattle.w32_machine.specs.Kinds.{MayBeTaken, Takes}
+use Rattle.w32_kinds.specs.Kinds.{MayBeTaken, Takes}
 use Rattle.w32_machine.specs.Running.{Running}
-use Rattle.w32_machine.specs.View.{shown, view_of}
+use Rattle.w32_kinds.specs.Shown.{shown}
+use Rattle.w32_machine.specs.View.{view_of}
 use Rattle.w32_machine.specs.Sound.{IsKind, IsSound}
 use Rattle.w32_machine.proofs.Called.{formed-effect}
 use Rattle.w32_machine.proofs.Changing.{KeepsKind, number_is, object_is, changed, after, sound_after}

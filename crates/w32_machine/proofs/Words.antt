@@ -14,12 +14,13 @@ use Rattle.w32_handles.specs.Table.{HeldObject, object_at}
 use Rattle.w32_handles.specs.Shown.{object_shown}
 use Rattle.w32_handles.specs.ShownLaws.{object_of-named, rising-objects}
 use Rattle.w32_section.specs.declared.BadIndex.{BadIndex}
-use Rattle.w32_machine.specs.declared.kind.Kind.{Kind}
-use Rattle.w32_machine.specs.declared.kind.Kind.TheVariants as kind
+use Rattle.w32_kinds.specs.declared.kind.Kind.{Kind}
+use Rattle.w32_kinds.specs.declared.kind.Kind.TheVariants as kind
 use Rattle.w32_machine.specs.declared.machine.Machine.TheInside.{Inside}
-use Rattle.w32_machine.specs.Kinds.{IsWord}
+use Rattle.w32_kinds.specs.Kinds.{IsWord}
 use Rattle.w32_machine.specs.Running.{Running}
-use Rattle.w32_machine.specs.View.{shown, view_of}
+use Rattle.w32_kinds.specs.Shown.{shown}
+use Rattle.w32_machine.specs.View.{view_of}
 use Rattle.w32_machine.specs.Sound.{IsKind, IsSound}
 use Rattle.w32_machine.proofs.Changing.{lent}
 

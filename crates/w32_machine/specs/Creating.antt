@@ -6,9 +6,9 @@ use Rattle.win32_spec.specs.Lookup.{object_number}
 use Rattle.win32_spec.specs.Making.{opening_call}
 use Rattle.w32_handles.specs.Table.{HeldObject, Table, object_at}
 use Rattle.w32_sync.specs.declared.PipeEnd.TheVariants.{Read, Write}
-use Rattle.w32_machine.specs.declared.kind.Kind.{Kind}
-use Rattle.w32_machine.specs.declared.kind.Kind.TheVariants as kind
-use Rattle.w32_machine.specs.Kinds.{ends_on}
+use Rattle.w32_kinds.specs.declared.kind.Kind.{Kind}
+use Rattle.w32_kinds.specs.declared.kind.Kind.TheVariants as kind
+use Rattle.w32_kinds.specs.Kinds.{ends_on}
 
 -- an object that so many handles more name by its first end, and so many by its second
 abbrev pub kind_with : ℕ → ℕ → Kind → Kind

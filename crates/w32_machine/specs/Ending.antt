@@ -10,8 +10,8 @@ use Rattle.w32_process.specs.Table as processes
 use Rattle.w32_process.specs.Table.{number_at, code_of, without_kept}
 use Rattle.w32_sync.specs.declared.PipeEnd.{PipeEnd}
 use Rattle.w32_sync.specs.declared.PipeEnd.TheVariants.{Read, Write}
-use Rattle.w32_machine.specs.declared.kind.Kind.{Kind}
-use Rattle.w32_machine.specs.Kinds.{IsProcess, ends_on, with_ends, kind_left_by}
+use Rattle.w32_kinds.specs.declared.kind.Kind.{Kind}
+use Rattle.w32_kinds.specs.Kinds.{IsProcess, ends_on, with_ends, kind_left_by}
 
 -- the end that a number names
 abbrev pub end_by : ℕ → PipeEnd

@@ -8,10 +8,10 @@ use Rattle.win32_spec.specs.Ends.{is_object_of}
 use Rattle.win32_spec.specs.ProcessCalls.{process_object}
 use Rattle.w32_handles.specs.Table.{HeldObject}
 use Rattle.w32_machine.specs.declared.caller.Caller.{Caller}
-use Rattle.w32_machine.specs.declared.kind.Kind.{Kind}
-use Rattle.w32_machine.specs.declared.kind.Kind.TheVariants as kind
+use Rattle.w32_kinds.specs.declared.kind.Kind.{Kind}
+use Rattle.w32_kinds.specs.declared.kind.Kind.TheVariants as kind
 use Rattle.w32_machine.specs.Ending.{end_by}
-use Rattle.w32_machine.specs.Kinds.{ends_on, with_ends}
+use Rattle.w32_kinds.specs.Kinds.{ends_on, with_ends}
 
 -- an object with a holder more, by the end that the number names
 abbrev pub held_more : ℕ → HeldObject Kind → HeldObject Kind

@@ -1,5 +1,3 @@
-pub mod Placed
-pub mod Kinds
 pub mod Running
 pub mod Contract
 pub mod View
@@ -9,12 +7,8 @@ pub mod Handing
 pub mod Reached
 pub mod Waited
 pub mod Looking
-pub mod Terminals
 pub mod Copies
 pub mod Turning
-pub mod Driving
-pub mod DrivenTurns
 pub mod Creating
-pub mod ScriptCopies
-pub mod Rows
-pub mod Opened
+pub mod Lent
+pub mod NumberLaws

@@ -9,8 +9,8 @@ use Rattle.w32_handles.specs.Table.{HeldObject, object_at}
 use Rattle.w32_process.specs.Places.{Place}
 use Rattle.w32_process.specs.Table.{number_at}
 use Rattle.w32_process.specs.Sound as processes
-use Rattle.w32_machine.specs.declared.kind.Kind.{Kind}
-use Rattle.w32_machine.specs.declared.kind.Kind.TheVariants as kind
+use Rattle.w32_kinds.specs.declared.kind.Kind.{Kind}
+use Rattle.w32_kinds.specs.declared.kind.Kind.TheVariants as kind
 use Rattle.w32_machine.specs.declared.machine.Machine.TheInside.{Inside}
 use Rattle.w32_machine.specs.Contract.{key_lines}
 use Rattle.w32_machine.specs.View.{view_of}

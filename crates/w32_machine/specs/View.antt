@@ -1,24 +1,13 @@
 -- The Win32 state that the machine's tables stand for.
 use Rattle.std.specs.Prelude.{ℕ, ◌+◌, ◌*◌, nat_lt, if◌then◌else◌, List, [], slice_index_or}
 use Rattle.w32_base.specs.declared.call.Call.{Call}
-use Rattle.win32_spec.specs.State.{Object, Section, Event, Mutex, Pipe, ProcessObject, TerminalObject}
 use Rattle.win32_spec.specs.State.{PlacedModule}
 use Rattle.win32_spec.specs.Making.{opening_call}
 use Rattle.w32_handles.specs.Shown.{objects_of}
 use Rattle.w32_process.specs.Processes.{processes_of}
-use Rattle.w32_machine.specs.declared.kind.Kind.{Kind}
-use Rattle.w32_machine.specs.declared.kind.Kind.TheVariants as kind
+use Rattle.w32_kinds.specs.Shown.{shown}
 use Rattle.w32_machine.specs.declared.machine.Machine.TheInside.{Inside}
 use Rattle.w32_machine.specs.Running.{Running}
-
--- the object that the code keeps in this form
-abbrev pub shown : Kind → Object
-shown (kind.Section words) = Section words
-shown (kind.Event e) = Event e
-shown (kind.Mutex owner) = Mutex owner
-shown (kind.Pipe p) = Pipe p.bytes
-shown (kind.Process w slot) = ProcessObject w
-shown (kind.Terminal terminal) = TerminalObject terminal.value
 
 -- the call that a thread has posted: three calls a slot
 abbrev pub posted_in : List Call → ℕ → ℕ → Call

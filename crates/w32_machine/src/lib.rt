@@ -3,11 +3,8 @@
 #![tactic(auto)]
 
 mod caller;
-mod driven;
-mod kind;
 mod machine;
-mod placements;
 
-pub use driven::{Driven, DrivenTurn};
+pub use caller::Caller;
 pub use machine::{Machine, Turned};
 pub use w32_section::BadIndex;

@@ -11,22 +11,19 @@ ghost use Rattle.win32_spec.specs.Ready.{IsQuiet, IsNextReady};
 ghost use Rattle.win32_spec.specs.Run.{Posts, with_key};
 ghost use Rattle.w32_machine.specs.Contract.{own_in};
 
-use crate::kind::Kind;
-use crate::machine::copying::script_of;
-use crate::machine::opening::objects::first_objects;
-use crate::machine::opening::parts::{first_calls, first_modules, first_placements};
-use crate::machine::opening::processes::first_processes;
-use crate::placements::Placements;
 use script_spec::Script;
 use std::alloc::Global;
 use std::collections::VecDeque;
 use std::marker::Model;
 use w32_base::{Call, Memory, ObjectNo, Own, Slot, ThreadNo, WinNo};
 use w32_handles::Objects;
+use w32_kinds::{Kind, Placements};
+use w32_opening::{
+    first_calls, first_modules, first_objects, first_placements, first_processes, script_of,
+};
 use w32_process::Processes;
 use w32_section::BadIndex;
 
-mod copying;
 mod creating;
 mod ending;
 mod finding;
@@ -36,7 +33,6 @@ mod making;
 mod memory;
 mod naming;
 mod objects;
-mod opening;
 mod processes;
 mod ready;
 mod terminal;

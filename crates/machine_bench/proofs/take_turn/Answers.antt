@@ -1,4 +1,4 @@
-use Rattle.w32_machine.specs.DrivenTurns.{called_by, came_by}
+use Rattle.w32_driven.specs.DrivenTurns.{called_by, came_by}
 use Rattle.machine_bench.specs.Counted.{counted_turn}
 use Rattle.machine_bench.proofs.take_turn.Goals as goal
 

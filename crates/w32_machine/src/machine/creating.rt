@@ -8,12 +8,11 @@ ghost use Rattle.w32_machine.specs.Contract.{IsCaller};
 ghost use Rattle.w32_machine.specs.Creating.{HoldsEach, HaveRoom, opened};
 
 use crate::caller::Caller;
-use crate::kind::Kind;
 use crate::machine::making::hold_object;
 use crate::machine::{Machine, place};
-use crate::placements::Placements;
 use w32_base::{Call, HandleList, HandleNo, Reply, Slot, ThreadNo};
 use w32_handles::{Handles, Objects};
+use w32_kinds::{Kind, Placements};
 
 /// The highest number that a handle may have.
 const LAST_HANDLE: u8 = 64;

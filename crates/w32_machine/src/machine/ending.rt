@@ -11,15 +11,15 @@ ghost use Rattle.win32_spec.specs.Run.{StepBy};
 ghost use Rattle.w32_handles.specs.Table.{object_at, freed};
 ghost use Rattle.w32_handles.specs.Shown.{objects_of};
 ghost use Rattle.w32_machine.specs.Contract.{IsCaller};
-ghost use Rattle.w32_machine.specs.View.{shown};
+ghost use Rattle.w32_kinds.specs.Shown.{shown};
 ghost use Rattle.w32_machine.specs.Ending.{HasHolder, LeavesOne, WentWith, left_kept, MayForget, Forgets};
 ghost use Rattle.w32_machine.specs.Ending.{outcome_of_end};
 
 use crate::caller::Caller;
-use crate::kind::{Kind, end_of};
 use crate::machine::Machine;
 use w32_base::{HandleNo, ObjectNo, Reply, Slot, ThreadNo, WinNo};
 use w32_handles::Objects;
+use w32_kinds::{Kind, end_of};
 use w32_process::Processes;
 
 /// The code of a process that is ended from outside.

@@ -8,11 +8,11 @@ ghost use Rattle.w32_process.specs.Sound.{IsSound};
 ghost use Rattle.w32_process.specs.Table.{number_at};
 ghost use Rattle.w32_process.specs.TableLaws.{IsInNone};
 ghost use Rattle.w32_machine.specs.Handing.{is_its_object};
-ghost use Rattle.w32_machine.specs.View.{shown};
+ghost use Rattle.w32_kinds.specs.Shown.{shown};
 
-use crate::kind::Kind;
 use w32_base::{ObjectNo, Slot, WinNo};
 use w32_handles::Objects;
+use w32_kinds::Kind;
 use w32_process::Processes;
 
 /// How many slots there are at the most, with the host's.

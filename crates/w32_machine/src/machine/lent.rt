@@ -5,7 +5,7 @@ ghost use Rattle.win32_spec.specs.Driven.{PartGoes};
 ghost use Rattle.win32_spec.specs.Lookup.{thread_at, number_in};
 ghost use Rattle.win32_spec.specs.WellFormed.{IsWellFormed};
 ghost use Rattle.w32_machine.specs.Contract.{IsCaller};
-ghost use Rattle.w32_machine.specs.Driving.{IsAnswer, HasFewThreads, ToldOf, ToldOfNone};
+ghost use Rattle.w32_machine.specs.Lent.{IsAnswer, HasFewThreads, ToldOf, ToldOfNone};
 
 use crate::caller::Caller;
 use crate::machine::Machine;
@@ -14,16 +14,16 @@ use script_spec::Script;
 use w32_base::{After, Event, Reply, Setup, Slot, ThreadNo, Whole, WinNo};
 
 impl Machine {
-    // The number of the process in a slot. The state is well formed.
-    pub(crate) fn stands_in(&self, slot: Slot) -> Option<WinNo>
+    /// The number of the process in a slot, or none where it is empty. The state is well formed.
+    pub fn stands_in(&self, slot: Slot) -> Option<WinNo>
         ensures value { result ≡ number_in self.now.win32 slot }
         ensures formed { IsWellFormed self.now.script self.now.win32 }
     {
         self.processes.in_slot(slot)
     }
 
-    // Whether a thread exists.
-    pub(crate) fn has_thread(&self, slot: Slot, thread: ThreadNo) -> bool
+    /// Whether a thread exists. Only few may: those from 0 to 2 in slots from 0 to 64.
+    pub fn has_thread(&self, slot: Slot, thread: ThreadNo) -> bool
         ensures value { IsTrue result ↔ IsSome (thread_at self.now.win32 slot thread) }
         ensures few { HasFewThreads self.now.win32 }
     {
@@ -41,8 +41,8 @@ impl Machine {
         slot_of(&self.processes, w)
     }
 
-    // The slot of the process that a reply tells of as made, or none where it tells of none.
-    pub(crate) fn made_in(&self, reply: &Reply) -> Option<Slot>
+    /// The slot of the process that a reply tells of as made, or none where it tells of none.
+    pub fn made_in(&self, reply: &Reply) -> Option<Slot>
         ensures { MatchOption result (ToldOfNone self.now.win32 reply.now)
             (λ slot. ToldOf self.now.win32 reply.now slot) }
     {
@@ -52,13 +52,9 @@ impl Machine {
         }
     }
 
-    // The part of a thread goes on with a reply, over the bytes of its process, and its next call is posted.
-    pub(crate) fn go_on<P: Whole>(
-        &mut self,
-        by: &Caller,
-        part: &mut P,
-        reply: &Reply,
-    ) -> Option<Event>
+    /// The part of a thread goes on with a reply, over the bytes of its process, and its next call is posted. Answers
+    /// the event of the turn, if any.
+    pub fn go_on<P: Whole>(&mut self, by: &Caller, part: &mut P, reply: &Reply) -> Option<Event>
         requires caller { IsCaller self.old.win32 by.now }
         requires thread { IsSome (thread_at self.old.win32 by.now.slot by.now.thread) }
         ensures went { PartGoes P.posted_of P.goes P.opening P.slot_of P.thread_of self.old.script self.old.win32

@@ -13,14 +13,14 @@ ghost use Rattle.w32_handles.specs.Table.{object_at, Changes};
 ghost use Rattle.w32_process.specs.Table.{number_at, place_at, with_handles};
 ghost use Rattle.w32_machine.specs.Contract.{IsCaller};
 ghost use Rattle.w32_machine.specs.Handing.{held_by, MayBeHeld, IsNewKind};
-ghost use Rattle.w32_machine.specs.View.{shown};
+ghost use Rattle.w32_kinds.specs.Shown.{shown};
 
 use crate::caller::Caller;
-use crate::kind::{Kind, end_of};
 use crate::machine::Machine;
 use crate::machine::finding::{object_of, slot_of};
 use w32_base::{HandleNo, ObjectNo, Reply, Slot, WinNo};
 use w32_handles::Objects;
+use w32_kinds::{Kind, end_of};
 use w32_process::Processes;
 use w32_sync::{Pipe, PipeEnd, WinEvent, WinMutex};
 

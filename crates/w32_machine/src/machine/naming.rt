@@ -19,8 +19,8 @@ impl Machine {
         self.processes.handles(by.slot).get(h)
     }
 
-    // The process that a handle of the caller names, with the slot that it lives or lived in.
-    pub(crate) fn named_process(&self, by: &Caller, h: HandleNo) -> Option<(WinNo, Slot)>
+    /// The process that a handle of the caller names, with the slot that it lives or lived in.
+    pub fn named_process(&self, by: &Caller, h: HandleNo) -> Option<(WinNo, Slot)>
         requires { IsCaller self.now.win32 by.now }
         ensures named { MatchOption result (process_named (object_by self.now.win32 by.now.process h) ≡ None)
             (λ p. process_named (object_by self.now.win32 by.now.process h) ≡ Some p.0) }

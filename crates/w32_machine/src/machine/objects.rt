@@ -6,9 +6,9 @@ ghost use Rattle.win32_spec.specs.ObjectCalls.{PutStep, GetStep};
 ghost use Rattle.w32_machine.specs.Contract.{IsCaller};
 
 use crate::caller::Caller;
-use crate::kind::end_of;
 use crate::machine::Machine;
 use w32_base::{HandleNo, Reply};
+use w32_kinds::end_of;
 
 impl Machine {
     // `set`

@@ -9,9 +9,9 @@ ghost use Rattle.w32_machine.specs.Contract.{IsCaller, OnlyFew};
 ghost use Rattle.w32_machine.specs.Looking.{IsNoneFrom, IsFirstFrom, IsNoneAmong, IsFirstAmong};
 
 use crate::caller::Caller;
-use crate::kind::Kind;
 use crate::machine::Machine;
 use w32_base::{Call, HandleList, HandleNo, ObjectNo, Slot, ThreadNo};
+use w32_kinds::Kind;
 
 /// How many threads a process has at the most.
 const THREADS: u8 = 3;

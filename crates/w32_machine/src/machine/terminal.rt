@@ -6,14 +6,14 @@ ghost use Rattle.win32_spec.specs.Lookup.{memory_by};
 ghost use Rattle.win32_spec.specs.Named.{object_by, terminal_named};
 ghost use Rattle.win32_spec.specs.TerminalCalls.{TtyStep, is_buffer};
 ghost use Rattle.w32_machine.specs.Contract.{IsCaller};
-ghost use Rattle.w32_machine.specs.Terminals.{LineStep};
+ghost use Rattle.w32_kinds.specs.Terminals.{LineStep};
 
 use crate::caller::Caller;
-use crate::kind::terminals::{is_behind, stops_writers};
 use crate::machine::Machine;
 use crate::machine::memory::{Start, lies_inside};
 use tty_line::Tty;
 use w32_base::{Bytes64, HandleNo, Pid, Region, Reply, TtyOp};
+use w32_kinds::{is_behind, stops_writers};
 
 /// How many bytes a call may move.
 const MOST_MOVED: u32 = 64;

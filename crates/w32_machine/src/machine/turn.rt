@@ -33,8 +33,8 @@ impl Machine {
         }
     }
 
-    // The call that a turn of a thread carries out, with the thread, or none where it isn't ready.
-    pub(crate) fn next_call(&self, slot: Slot, thread: ThreadNo) -> Option<(Caller, Call)>
+    /// The call that a turn of a thread carries out, with the thread, or none where it isn't ready.
+    pub fn next_call(&self, slot: Slot, thread: ThreadNo) -> Option<(Caller, Call)>
         ensures { MatchOption result (IsNoCall self.now slot thread)
             (λ next. IsNextCall self.now slot thread next.0 next.1) }
     {
@@ -52,8 +52,8 @@ impl Machine {
         Some((by, *self.posted(slot, thread)))
     }
 
-    // Carries out a call of a thread. A wait has something to take.
-    pub(crate) fn carry_out(&mut self, by: &Caller, call: &Call) -> Reply
+    /// Carries out a call of a thread that is ready. A wait has something to take.
+    pub fn carry_out(&mut self, by: &Caller, call: &Call) -> Reply
         requires caller { IsCaller self.old.win32 by.now }
         requires goes { may_go self.old.win32 by.now.process by.now.thread
             (handles_by self.old.win32 by.now.process) call.now ≡ true }

@@ -1,5 +1,5 @@
 use Rattle.std.proofs.Common.{◌∙◌, sym, subst}
-use Rattle.w32_machine.specs.Kinds.{Gets}
+use Rattle.w32_kinds.specs.Kinds.{Gets}
 use Rattle.w32_machine.proofs.Changing.{some_at}
 use Rattle.w32_machine.proofs.Called.{get-done, get-sound}
 use Rattle.w32_machine.proofs.machine.Machine.get.Goals as goal

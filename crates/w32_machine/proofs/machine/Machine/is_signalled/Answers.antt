@@ -1,7 +1,7 @@
 use Rattle.std.proofs.Common.{◌∙◌, sym, ap, not, if◌then◌else◌, ◌==◌}
 use Rattle.win32_spec.specs.Objects.{is_free_for, is_empty}
 use Rattle.tty_spec.specs.Discipline.{has_line}
-use Rattle.w32_machine.specs.declared.kind.Kind.TheVariants as kind
+use Rattle.w32_kinds.specs.declared.kind.Kind.TheVariants as kind
 use Rattle.w32_machine.specs.Running.{Running}
 use Rattle.w32_machine.proofs.Changing.{some_at}
 use Rattle.w32_machine.proofs.Signalled.{kind-signalled, pipe-signalled, pipe-other, process-signalled, is_empty-length}

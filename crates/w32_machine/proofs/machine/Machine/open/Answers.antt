@@ -1,7 +1,7 @@
 use Rattle.std.proofs.Common.{refl, ap, subst, arith}
 use Rattle.w32_handles.specs.Table.{Table}
 use Rattle.w32_process.specs.Sound.{IsSound}
-use Rattle.w32_machine.specs.declared.kind.Kind.{Kind}
+use Rattle.w32_kinds.specs.declared.kind.Kind.{Kind}
 use Rattle.w32_machine.specs.declared.machine.Machine.TheInside.{Inside}
 use Rattle.w32_machine.proofs.FirstSound.{IsFirst, is-opening-by, is-sound}
 use Rattle.w32_machine.proofs.machine.Machine.open.Goals as goal

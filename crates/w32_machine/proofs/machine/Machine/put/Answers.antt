@@ -1,5 +1,5 @@
 use Rattle.std.proofs.Common.{◌∙◌, sym, subst}
-use Rattle.w32_machine.specs.Kinds.{Puts}
+use Rattle.w32_kinds.specs.Kinds.{Puts}
 use Rattle.w32_machine.proofs.Changing.{some_at}
 use Rattle.w32_machine.proofs.Called.{put-done, put-sound}
 use Rattle.w32_machine.proofs.machine.Machine.put.Goals as goal

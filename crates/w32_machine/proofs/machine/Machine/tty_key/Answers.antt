@@ -1,6 +1,6 @@
 use Rattle.std.proofs.Common.{◌≡◌, ◌∙◌, true, is_some, refl, sym, ap, subst}
 use Rattle.w32_machine.specs.Running.{Running}
-use Rattle.w32_machine.specs.Terminals.{terminal_of}
+use Rattle.w32_kinds.specs.Terminals.{terminal_of}
 use Rattle.w32_machine.specs.View.{view_of}
 use Rattle.w32_machine.proofs.Changing.{some_at, object_is}
 use Rattle.w32_machine.proofs.TerminalLines.{same-lent, no-terminal, no-key, no-first, keys-back, press-sound}

@@ -4,7 +4,7 @@ use borrow.Author.Count.{below_more}
 use Rattle.w32_handles.specs.Shown.{object_shown}
 use Rattle.w32_handles.specs.Table.{object_at}
 use Rattle.w32_machine.specs.Handing.{is_its_object}
-use Rattle.w32_machine.specs.View.{shown}
+use Rattle.w32_kinds.specs.Shown.{shown}
 use Rattle.w32_machine.proofs.Finding.{first-found, none-found}
 use Rattle.w32_machine.proofs.machine.finding.object_of.Goals as goal
 

@@ -1,0 +1,9 @@
+mod CallNumbers
+mod Made
+mod Following
+mod PartTurns
+mod Places
+mod PartCalls
+mod DrivenSteps
+mod FirstParts
+mod Alike

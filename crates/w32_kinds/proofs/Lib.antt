@@ -1,0 +1,3 @@
+mod FreePages
+mod Placing
+mod Bases

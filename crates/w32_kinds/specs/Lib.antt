@@ -1,0 +1,4 @@
+pub mod Placed
+pub mod Kinds
+pub mod Terminals
+pub mod Shown

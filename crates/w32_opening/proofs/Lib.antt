@@ -1,0 +1,7 @@
+mod ScriptCopying
+mod FirstModules
+mod FirstHandles
+mod FirstCygheap
+mod FirstWords
+mod FirstProcesses
+mod FirstObjects

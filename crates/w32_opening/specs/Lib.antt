@@ -1,0 +1,3 @@
+pub mod ScriptCopies
+pub mod Rows
+pub mod Opened
