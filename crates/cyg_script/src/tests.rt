@@ -52,7 +52,8 @@ fn refuses_faulty_lines(rt: HostRuntime) -> Result<(), Fail> {
     assert!(rt; refuses(&rt, &text, 5, Kind::NotAscii));
     let text = after_head(
         &rt,
-        b"#aaaaaaaaaaaaaaaaaaaaaaaaaaaaaaaaaaaaaaaaaaaaaaaaaaaaaaaaaaaaaaaaaaaaaaaaaaaaaaaaaaaaaaaaaaaaaaaaaaaaaaaaaaaaaaaaaaaaaaaaaaaaaaaaaaaaaaaaaaaaaaaaaaaaaaaaaaaaaaaaaaaaaaaaaaaaaaaaaaaaaaaaaaaaaaaaaaaaaaaa\n",
+        b"#aaaaaaaaaaaaaaaaaaaaaaaaaaaaaaaaaaaaaaaaaaaaaaaaaaaaaaaaaaaaaaaaaaaaaaaaaaaaaaaaaaaaaaaaaaaaaaaaaaaa\
+            aaaaaaaaaaaaaaaaaaaaaaaaaaaaaaaaaaaaaaaaaaaaaaaaaaaaaaaaaaaaaaaaaaaaaaaaaaaaaaaaaaaaaaaaaaaaaaaaaaaa\n",
     )?;
     assert!(rt; refuses(&rt, &text, 5, Kind::TooLong));
     let text = after_head(&rt, b"schedule\n")?;
@@ -175,7 +176,8 @@ fn refuses_faulty_schedules(rt: HostRuntime) -> Result<(), Fail> {
     assert!(rt; refuses(&rt, &text, 7, Kind::Twice));
     let text = after_head(
         &rt,
-        b"module a0 0 1\nmodule a1 0 1\nmodule a2 0 1\nmodule a3 0 1\nmodule a4 0 1\nmodule a5 0 1\nmodule a6 0 1\nmodule a7 0 1\nmodule a8 0 1\n",
+        b"module a0 0 1\nmodule a1 0 1\nmodule a2 0 1\nmodule a3 0 1\nmodule a4 0 1\n\
+            module a5 0 1\nmodule a6 0 1\nmodule a7 0 1\nmodule a8 0 1\n",
     )?;
     assert!(rt; refuses(&rt, &text, 13, Kind::TooMany));
     let text = after_head(&rt, b"program main heap 0 stack 64\njump 9\nschedule now\n")?;

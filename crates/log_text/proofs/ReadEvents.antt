@@ -1,13 +1,10 @@
 -- An event in its range is read from its words.
-use Rattle.std.proofs.Common.{◌≡◌, refl, ℕ, ℤ, Bool, true, false, ◌&&◌, nat_eq, nat_le, List, [], map, length, Option}
+use Rattle.std.proofs.Common.{◌≡◌, refl, ℕ, ℤ, Bool, true, false, ◌&&◌, nat_eq, List, [], map, Option}
 use Rattle.std.proofs.Common.{Some}
 use Rattle.std.proofs.Common.{ap, ◌∙◌}
 use Rattle.std.specs.Prelude.{codes, option_map}
-use Rattle.std.specs.List.{list_all}
 use Rattle.std.specs.Fmt.{decimal, signed_decimal}
-use Rattle.w32_base.specs.declared.event.Answer.{Answer}
 use Rattle.w32_base.specs.declared.event.Field.TheVariants as field
-use Rattle.w32_base.specs.declared.event.ForkCause.{ForkCause}
 use Rattle.w32_base.specs.declared.event.ForkCause.TheVariants as fork
 use Rattle.w32_base.specs.declared.event.ExecCause.TheVariants as exec
 use Rattle.w32_base.specs.declared.event.Delivery.TheVariants as delivery
@@ -26,7 +23,7 @@ use Rattle.log_spec.specs.Events.{errno_text, answer_text, words_of, event_text,
 use Rattle.log_spec.specs.EventsRead.{words_in}
 use Rattle.log_spec.specs.EventsReadLaws.{parts}
 use Rattle.log_spec.specs.EventsTextLaws.{event_words}
-use Rattle.log_text.specs.ReadWords.{actor_of, numeral_in}
+use Rattle.log_text.specs.ReadWords.{numeral_in}
 use Rattle.log_text.specs.ReadEvents.{placed, got, handler_of, answered, by_two, by_one, by_actor, by_word}
 use Rattle.log_text.specs.ReadEvents.{event_of, event_of_words}
 use Rattle.log_text.specs.FirstWords.{event_word}

@@ -3,7 +3,7 @@
 ghost use Rattle.std.specs.Prelude.{◌≡◌, ◌+◌, ◌≤◌, [], ◌∷◌, ◌++◌, length, IsTrue};
 ghost use Rattle.std.specs.Fmt.{decimal};
 ghost use Rattle.log_spec.specs.EventsText.{is_one_line};
-ghost use Rattle.log_spec.specs.Texts.{spaced, list_text, flag_text};
+ghost use Rattle.log_spec.specs.Texts.{spaced};
 ghost use Rattle.log_spec.specs.Calls.{region_text, operation_words, copy_words, call_text};
 
 use crate::line::Line;

@@ -1,6 +1,6 @@
 //! The processes that have lines in view `calls`, and the lines that an entry gives them.
 
-ghost use Rattle.std.specs.Prelude.{◌≡◌, ◌≤◌, ◌≢◌, IfSome};
+ghost use Rattle.std.specs.Prelude.{◌≡◌, ◌≤◌, IfSome};
 ghost use Rattle.log_text.specs.Callers.{caller, IsNext};
 
 use w32_base::entry::Entry;

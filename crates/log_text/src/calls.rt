@@ -1,6 +1,6 @@
 //! View `calls`: the lines of each process, and what the terminal showed.
 
-ghost use Rattle.std.specs.Prelude.{◌≡◌, ◌++◌, [], OnErr, OnOk};
+ghost use Rattle.std.specs.Prelude.{◌≡◌, [], OnErr, OnOk};
 ghost use Rattle.cyg_io.specs.Sink.{EndsOneLine};
 ghost use Rattle.log_text.specs.Callers.{line_by, lines_by, groups_below};
 ghost use Rattle.log_text.specs.Writes.{told, WritesAll, WritesPart};

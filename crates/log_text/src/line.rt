@@ -1,6 +1,6 @@
 //! A line of a log, which is built in place.
 
-ghost use Rattle.std.specs.Prelude.{◌≡◌, ◌+◌, ◌≤◌, [], ◌∷◌, ◌++◌, length, IsTrue, OnOk, OnErr};
+ghost use Rattle.std.specs.Prelude.{◌≡◌, ◌+◌, ◌≤◌, [], ◌++◌, length, IsTrue, OnOk, OnErr};
 ghost use Rattle.std.specs.Fmt.{decimal, signed_decimal};
 ghost use Rattle.cyg_io.specs.Sink.{EndsOneLine, IsRestOf};
 ghost use Rattle.log_spec.specs.EventsText.{is_one_line};

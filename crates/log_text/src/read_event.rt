@@ -3,7 +3,7 @@
 ghost use Rattle.std.specs.Prelude.{◌≡◌};
 ghost use Rattle.log_text.specs.ReadEvents.{fork_cause_of, exec_cause_of, death_of, action_of, alone, named, numbered};
 ghost use Rattle.log_text.specs.ReadEvents.{tailed, paired, answered, by_two, by_one, event_of};
-ghost use Rattle.log_text.specs.ReadWords.{numeral_in, answer_of};
+ghost use Rattle.log_text.specs.ReadWords.{numeral_in};
 
 use crate::first_word::{EventWord, event_word};
 use crate::read_words::{actor, answer, delivery, errno, field, is_same, key, name, number, shown};

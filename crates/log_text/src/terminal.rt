@@ -1,6 +1,6 @@
 //! What the terminal shows in a run.
 
-ghost use Rattle.std.specs.Prelude.{◌≡◌, [], ◌≤◌, length};
+ghost use Rattle.std.specs.Prelude.{◌≡◌};
 ghost use Rattle.log_spec.specs.Output.{terminal_after, echo_of, shown_by};
 
 use tty_line::Tty;

@@ -3,9 +3,9 @@
 ghost use Rattle.std.specs.Prelude.{None};
 
 use crate::write_log;
-use cyg_io::{MemSink, Sink, WriteFailed};
+use cyg_io::{MemSink, Sink};
 use script_spec::{Lines, Occupied, ScheduleLine, Script};
-use std::alloc::{AllocError, Global};
+use std::alloc::Global;
 use std::test::Fail;
 use w32_base::{
     Acting, Answer, Bytes64, Call, Code, Death, Directive, End, Entry, Errno, Event, ForkCause,

@@ -1,6 +1,6 @@
 //! The log of a journal, written to a sink.
 
-ghost use Rattle.std.specs.Prelude.{◌≡◌, ◌≤◌, [], ◌++◌, length, OnOk, OnErr, IsTrue};
+ghost use Rattle.std.specs.Prelude.{◌≡◌, ◌≤◌, [], length, OnOk, OnErr, IsTrue};
 ghost use Rattle.std.specs.Io.KnownBytes.{Appends};
 ghost use Rattle.cyg_io.specs.Counts.{RoseBy};
 ghost use Rattle.cyg_io.specs.Sink.{AppendsPart, TakesOnly, EndsOneLine};

@@ -1,7 +1,7 @@
 //! Scripts that are made for a number of forks.
 #![tactic(auto)]
 
-ghost use Rattle.std.specs.Prelude.{◌≡◌, ◌≤◌, ◌+◌, ◌*◌, ◌∷◌, [], length, IfOk};
+ghost use Rattle.std.specs.Prelude.{◌≡◌, ◌≤◌, ◌+◌, ◌*◌, ◌∷◌, [], IfOk};
 ghost use Rattle.world_gen.specs.Forks.{instructions_of, IsForking, one_fork as fork_and_wait, forks as forks_of};
 ghost use Rattle.world_gen.specs.Parts.{IsMainOf, IsSetupOf};
 ghost use Rattle.script_spec.specs.declared.script.ScheduleLine.TheVariants.{Settle};

@@ -1,4 +1,4 @@
-use Rattle.std.proofs.Common.{◌≡◌, Ok, Some, sym, ap, ◌∙◌}
+use Rattle.std.proofs.Common.{◌≡◌, Ok, Some, ap, ◌∙◌}
 use Rattle.std.specs.Fmt.{signed_decimal}
 use Rattle.log_text.proofs.ReadWords.{kept, is_text, is_parsed}
 use Rattle.log_text.proofs.read_words.parsed.Goals as goal
