@@ -6,12 +6,15 @@ use clap::{Arg, ArgAction, Command};
 use cyg_cli::{StdSink, StdSource, run_top};
 use std::alloc::{AllocError, Global};
 use std::env;
-use std::io::{self, ErrorKind};
+use std::io::{self, BufWriter, ErrorKind, Write};
 use std::process::ExitCode;
 use std::rt::Env;
 
 /// The words aren't accepted.
 const OTHER_WORDS: u8 = 2;
+
+/// Standard output had a fault.
+const WRITE_FAULT: u8 = 5;
 
 /// Memory ran out.
 const NO_MEMORY: u8 = 7;
@@ -27,13 +30,10 @@ fn main(rt: HostRuntime) -> ExitCode {
 // Carries out the command that the words name.
 fn run<R: Env + Input + Print + AllocGlobal>(rt: &R) -> u8 {
     match words_of(rt) {
-        Ok(words) => {
-            let mut src = StdSource::new(rt.reader());
-            let mut sink = StdSink::new(io::writer(rt));
-            run_top(rt.alloc(), &words, &mut src, &mut sink)
-                .status
-                .get()
-        }
+        Ok(words) => match BufWriter::new(rt.alloc(), io::writer(rt)) {
+            Ok(mut out) => run_to(rt, &words, &mut out),
+            Err(_) => NO_MEMORY,
+        },
         Err(error) => {
             if error.kind() == ErrorKind::OutOfMemory {
                 NO_MEMORY
@@ -41,6 +41,17 @@ fn run<R: Env + Input + Print + AllocGlobal>(rt: &R) -> u8 {
                 OTHER_WORDS
             }
         }
+    }
+}
+
+// Carries out the command that the words name, and writes what is left in the writer's buffer.
+fn run_to<R: Input + AllocGlobal, W: Write>(rt: &R, words: &Vec<String>, out: &mut W) -> u8 {
+    let mut src = StdSource::new(rt.reader());
+    let mut sink = StdSink::new(&mut *out);
+    let status = run_top(rt.alloc(), words, &mut src, &mut sink).status.get();
+    match out.flush() {
+        Ok(()) => status,
+        Err(_) => WRITE_FAULT,
     }
 }
 

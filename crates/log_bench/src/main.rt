@@ -7,7 +7,8 @@ use cyg_io::StdSink;
 use log_text::write_log;
 use script_spec::{Lines, Occupied, ScheduleLine, Script};
 use std::alloc::{AllocError, Global};
-use std::{env, io};
+use std::env;
+use std::io::{self, BufWriter, Write};
 use w32_base::{
     Acting, Call, Code, Death, Directive, End, Entry, Event, HandleNo, Instr, Limits, Modules,
     Name, Number, Outcome, Program, Programs, Reply, Setup, Slot, ThreadNo, View,
@@ -63,7 +64,8 @@ fn main(rt: HostRuntime) -> Result<()> {
     };
     let script = script(rt.alloc(), name)?;
     let entries = vec![in rt.alloc(); entry(); count as usize]?;
-    let mut sink = StdSink::new(io::writer(&rt));
+    let mut out = BufWriter::new(rt.alloc(), io::writer(&rt))?;
+    let mut sink = StdSink::new(&mut out);
     if write_log(
         &script,
         entries.as_slice(),
@@ -75,5 +77,6 @@ fn main(rt: HostRuntime) -> Result<()> {
     {
         bail!("standard output had a fault");
     }
+    out.flush()?;
     Ok(())
 }
