@@ -23,8 +23,7 @@ pub record IsUntouched (before after : Outside) : Type 0 where
   pub ends : after.ends ≡ before.ends
 
 -- The ways in which the top call ends, with its status and its journal. `IsJournal` says which entries, with an end,
--- are
--- the journal of a run of a script.
+-- are the journal of a run of a script.
 pub data Ends (IsJournal : Script → List Entry → End → Type 0) (words : List (List ℕ)) (before after : Outside)
     (status : ℕ) (entries : List Entry) : Type 0 where
   -- the words aren't accepted, and nothing is read or written

@@ -1,6 +1,5 @@
 -- In view `calls` the groups together have as many bytes as the lines of all events of the view, and the line of each
--- of
--- these events stands in them.
+-- of these events stands in them.
 use Rattle.std.specs.Prelude.{◌≡◌, ℕ, zero, suc, ◌+◌, ◌<◌, Bool, true, false, ◌&&◌, ◌||◌, nat_eq, nat_lt, if◌then◌else◌}
 use Rattle.std.specs.Prelude.{List, [], ◌∷◌, ◌++◌, length, flat_map}
 use Rattle.std.specs.List.{filter, list_all}

@@ -1,6 +1,5 @@
 -- What a text of view `events` says, read word by word. This reads more than the texts of the view: it shows that
--- such a
--- text says one list of events, and a reader that prints again what it read knows whether the text was one.
+-- such a text says one list of events, and a reader that prints again what it read knows whether the text was one.
 use Rattle.std.specs.Prelude.{ℕ, zero, suc, ◌+◌, ◌-◌, ◌*◌, ℤ, pos, negsuc, nat_eq, nat_lt, if◌then◌else◌, List, [], ◌∷◌}
 use Rattle.std.specs.Prelude.{map, length, take, drop, codes, slice_index_or}
 use Rattle.std.specs.List.{slice_split}
