@@ -5,8 +5,6 @@ mod children;
 mod collect;
 mod ending;
 mod exiting;
-#[cfg(test)]
-mod tests;
 
 pub use children::listed_child;
 pub use collect::Gather;

@@ -17,6 +17,3 @@ pub use over_std::{StdSink, StdSource};
 pub use sink::{Sink, WriteFailed, write_all};
 pub use source::{ReadAllFault, ReadFailed, Source, read_all};
 pub use w32_base::Memory;
-
-#[cfg(test)]
-mod tests;

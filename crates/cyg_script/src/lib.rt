@@ -24,6 +24,3 @@ pub use print::print_script;
 pub use script::read_script;
 pub use script_spec::{Kind, Lines, Occupied, OccupiedPage, ScheduleLine, Script};
 pub use w32_base::Memory;
-
-#[cfg(test)]
-mod tests;

@@ -8,8 +8,6 @@ mod copies;
 mod image;
 mod places;
 mod readers;
-#[cfg(test)]
-mod tests;
 mod writers;
 
 pub use copies::{for_child, for_exec};

@@ -3,8 +3,6 @@
 
 mod one;
 mod start;
-#[cfg(test)]
-mod tests;
 
 pub use one::{KillOne, KillStep};
 pub use start::{KillStart, begin};

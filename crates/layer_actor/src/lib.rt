@@ -12,8 +12,6 @@ mod idle;
 mod local;
 mod look;
 mod start;
-#[cfg(test)]
-mod tests;
 
 pub use actor::{Actor, MainThread, Serves};
 pub use built_words::built;

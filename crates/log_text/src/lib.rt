@@ -23,8 +23,3 @@ mod write;
 pub use error::LogError;
 pub use read::read_events;
 pub use write::write_log;
-
-#[cfg(test)]
-mod read_tests;
-#[cfg(test)]
-mod tests;

@@ -13,8 +13,6 @@ mod release;
 mod scan;
 mod signal;
 mod tell_parent;
-#[cfg(test)]
-mod tests;
 mod wake;
 mod words;
 

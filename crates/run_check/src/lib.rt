@@ -3,8 +3,6 @@
 
 pub mod judging;
 mod parts;
-#[cfg(test)]
-mod tests;
 pub mod verdict;
 
 pub use judging::{Judged, judge};

@@ -2,7 +2,7 @@
 
 ghost use Rattle.std.specs.Prelude.{◌<◌, ◌≤◌};
 
-use super::*;
+use kill_calls::{KillOne, KillStart, begin};
 use roster::Signal;
 use std::alloc::Global;
 use std::test::Fail;

@@ -1,6 +1,9 @@
 ghost use Rattle.std.specs.Prelude.{◌≡◌, ◌<◌, ◌≤◌, ◌^◌, None, Some, IfOk, IfSome, length, map, vec_items};
 
-use super::*;
+use cyg_io::{
+    CleanSink, CleanSource, Gate, MemSink, MemSource, OpenGate, Place, ReadAllFault, Sink, StdSink,
+    StdSource, WriteFailed, read_all, write_all,
+};
 use std::alloc::Global;
 use std::io::{Cursor, Error, ErrorKind, Read, Write};
 use std::test::Fail;

@@ -1,4 +1,4 @@
-use crate::*;
+use cyg_script::{Kind, ScriptError, read_script};
 use std::test::Fail;
 
 const HEAD: &[u8] = b"cygscript 1\nslots 2\nrows 8\nbudget 100000\n";

@@ -2,7 +2,7 @@
 
 ghost use Rattle.std.specs.Prelude.{◌<◌, ◌≤◌};
 
-use super::*;
+use roster::{Claim, Hold, Let, Orphaned, Post, Posted, Poster, Scan, Signal};
 use std::alloc::Global;
 use std::test::Fail;
 use w32_base::{

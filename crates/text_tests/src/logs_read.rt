@@ -1,7 +1,7 @@
 //! Logs that are read.
 
-use crate::tests::{EVENTS, journal, log_of, long_journal, number, script};
-use crate::{LogError, read_events};
+use crate::logs::{EVENTS, journal, log_of, long_journal, number, script};
+use log_text::{LogError, read_events};
 use script_spec::Script;
 use std::alloc::Global;
 use std::test::Fail;

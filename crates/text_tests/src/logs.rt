@@ -2,8 +2,8 @@
 
 ghost use Rattle.std.specs.Prelude.{None};
 
-use crate::write_log;
 use cyg_io::{MemSink, Sink};
+use log_text::write_log;
 use script_spec::{Lines, Occupied, ScheduleLine, Script};
 use std::alloc::Global;
 use std::test::Fail;

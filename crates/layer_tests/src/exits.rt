@@ -2,7 +2,7 @@
 
 ghost use Rattle.std.specs.Prelude.{◌<◌, ◌≤◌};
 
-use super::*;
+use child_watch::{Ending, Exiting, Gather};
 use roster::Signal;
 use std::alloc::Global;
 use std::test::Fail;

@@ -3,7 +3,10 @@
 ghost use Rattle.std.specs.Prelude.{IsTrue, take};
 ghost use Rattle.layer_spec.specs.Heap.{IsHeapBytes};
 
-use super::*;
+use cygheap_image::{
+    HEAP_BYTES, Heap, add_child, child, children, for_child, for_exec, mask, note_death, owed,
+    read_heap, remove_child, saved, set_action, set_base, set_mask, set_owed, set_saved,
+};
 use std::alloc::Global;
 use std::test::Fail;
 use w32_base::{Action, Bytes, Own};

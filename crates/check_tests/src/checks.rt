@@ -1,8 +1,8 @@
 //! Runs of small programs, and lists that are none.
 
-use super::*;
 use posix_model::rule::Rule;
 use posix_model::state::{ApplyError, State};
+use run_check::{Judged, Verdict, check, judge};
 use script_spec::{Kind, Lines, Occupied, ScheduleLine, Script};
 use std::alloc::Global;
 use std::test::Fail;

@@ -2,7 +2,7 @@
 
 ghost use Rattle.std.specs.Prelude.{◌<◌, ◌≤◌};
 
-use super::*;
+use layer_actor::{Actor, Asked, Gets, built};
 use std::alloc::Global;
 use std::test::Fail;
 use w32_base::{
