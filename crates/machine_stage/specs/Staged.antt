@@ -1,6 +1,7 @@
 -- A machine of which is known how many turns it took at most: each turn and each post is allowed again.
 use Rattle.std.proofs.Common.{◌≡◌, ◌⊎◌, inl, inr, ◌∙◌, ℕ, zero, suc, ◌+◌, ◌≤◌, Bool, true, false, nat_eq, if◌then◌else◌}
 use Rattle.std.proofs.Common.{Option, Some, None, IsSome, List, [], ◌∷◌, refl, sym, subst, arith}
+use Rattle.std.proofs.lemmas.Bool.{eqb-true}
 use Rattle.w32_base.specs.declared.call.Call.{Call}
 use Rattle.w32_base.specs.declared.entry.Directive.TheVariants as directive
 use Rattle.w32_base.specs.declared.entry.Outcome.{Outcome}
@@ -164,3 +165,33 @@ has_thread turns slot t w m h stands few host = by_process (process_in m.win32.p
         let live = of_live m.script m.win32.objects p p.life found.1 (h.formed.formed.process p.number p found.0) in
         thread_in-there (threads_of p.slot) p.threads t live.threads
         (subst (λ k. IsIn t (threads_of k)) (sym found.2) (few_threads slot t few host))
+
+thread_in-none : (ts : List ℕ) (xs : List Thread) (t : ℕ) → AreThreads ts xs → (IsIn t ts → ⊥)
+    → thread_in xs t ≡ None
+thread_in-none [] [] t h never = refl
+thread_in-none [] (x ∷ xs) t h never = absurd h
+thread_in-none (n ∷ ts) [] t h never = absurd h
+thread_in-none (n ∷ ts) (x ∷ xs) t h never =
+    by_test (nat_eq x.number t) refl (thread_in-none ts xs t h.2 (λ i. never (inr i)))
+  where
+    by_test : (b : Bool) → nat_eq x.number t ≡ b → thread_in xs t ≡ None
+        → (if b then Some x else thread_in xs t) ≡ None
+    by_test true e rest = absurd (never (inl (sym h.0 ∙ eqb-true x.number t e)))
+    by_test false e rest = rest
+
+-- the host has two threads
+pub no_third_thread : (turns t : ℕ) (m : Running) → IsStaged turns m → 2 ≤ t → thread_at m.win32 0 t ≡ None
+no_third_thread turns t m h third = by_process (process_in m.win32.processes 0) refl
+  where
+    never : IsIn t (0 ∷ 1 ∷ []) → ⊥
+    never (inl e) = omega (arith, e, third)
+    never (inr (inl e)) = omega (arith, e, third)
+    never (inr (inr i)) = i
+
+    by_process : (o : Option Process) → process_in m.win32.processes 0 ≡ o → thread_of o t ≡ None
+    by_process None e = refl
+    by_process (Some p) e =
+        let found = process_in-found 1 m.win32.next m.win32.processes 0 p h.formed.formed.processes e in
+        let live = of_live m.script m.win32.objects p p.life found.1 (h.formed.formed.process p.number p found.0) in
+        thread_in-none (threads_of 0) p.threads t
+        (subst (λ k. AreThreads (threads_of k) p.threads) found.2 live.threads) never

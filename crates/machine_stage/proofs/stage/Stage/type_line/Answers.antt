@@ -7,7 +7,7 @@ use Rattle.machine_stage.proofs.stage.Stage.type_line.Goals as goal
 pub returns-in_default-clause-typed : goal.returns-in_default-clause-typed
 returns-in_default-clause-typed c =
     let none : c.key_at.result ≡ None = search rules in
-    typed_at c.args.lines.now c.args.place c.key_at.result c.args.self.now.win32.keys c.requires.within
+    typed_at c.args.lines.now c.args.place c.key_at.result c.args.self.now.machine.win32.keys c.requires.within
     c.key_at.ensures none c.requires.typed
 
 pub key-requires : goal.key-requires
