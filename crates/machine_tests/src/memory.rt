@@ -8,7 +8,7 @@ use w32_base::{Call, Reply, WinNo};
 
 #[test]
 fn bytes_go_to_another_process_and_back(rt: HostRuntime) -> Result<(), Fail> {
-    let mut m = Stage::open(rt.alloc(), TWO_SLOTS)?;
+    let mut m = Box::new(rt.alloc(), Stage::open(rt.alloc(), TWO_SLOTS)?)?;
     let p = handle(4);
     let steps = [
         Makes(4, handles(&[1])),
@@ -31,7 +31,7 @@ fn bytes_go_to_another_process_and_back(rt: HostRuntime) -> Result<(), Fail> {
 
 #[test]
 fn at_most_512_bytes_are_read(rt: HostRuntime) -> Result<(), Fail> {
-    let mut m = Stage::open(rt.alloc(), TWO_SLOTS)?;
+    let mut m = Box::new(rt.alloc(), Stage::open(rt.alloc(), TWO_SLOTS)?)?;
     let p = handle(4);
     let steps = [
         Makes(4, handles(&[1])),
@@ -73,7 +73,7 @@ const TWO_MODULES: &[u8] =
 
 #[test]
 fn a_module_is_placed_once(rt: HostRuntime) -> Result<(), Fail> {
-    let mut m = Stage::open(rt.alloc(), TWO_MODULES)?;
+    let mut m = Box::new(rt.alloc(), Stage::open(rt.alloc(), TWO_MODULES)?)?;
     let steps = [
         Says(1, Call::Module(0), Reply::Base(10)),
         Says(1, Call::Module(1), Reply::Base(0)),
@@ -93,7 +93,7 @@ const THREE_INSTRUCTIONS: &[u8] = b"cygscript 1\nslots 2\nrows 2\nbudget 1\n\
 
 #[test]
 fn a_block_ends_before_a_call(rt: HostRuntime) -> Result<(), Fail> {
-    let mut m = Stage::open(rt.alloc(), THREE_INSTRUCTIONS)?;
+    let mut m = Box::new(rt.alloc(), Stage::open(rt.alloc(), THREE_INSTRUCTIONS)?)?;
     let steps = [
         Says(1, Call::Run, Reply::Ran(2)),
         Holds(1, 3, 5),

@@ -7,7 +7,7 @@ use w32_base::{Call, Reply, WinNo};
 
 #[test]
 fn a_process_is_made_while_there_is_a_slot(rt: HostRuntime) -> Result<(), Fail> {
-    let mut m = Stage::open(rt.alloc(), TWO_SLOTS)?;
+    let mut m = Box::new(rt.alloc(), Stage::open(rt.alloc(), TWO_SLOTS)?)?;
     let made = Reply::Made(handle(4), WinNo::new(3));
     let steps = [
         Says(1, Call::Create(1, handles(&[])), Reply::BadIndex),
@@ -22,7 +22,7 @@ fn a_process_is_made_while_there_is_a_slot(rt: HostRuntime) -> Result<(), Fail> 
 
 #[test]
 fn a_process_that_has_ended_has_a_code(rt: HostRuntime) -> Result<(), Fail> {
-    let mut m = Stage::open(rt.alloc(), TWO_SLOTS)?;
+    let mut m = Box::new(rt.alloc(), Stage::open(rt.alloc(), TWO_SLOTS)?)?;
     let steps = [
         Makes(4, handles(&[1])),
         Says(1, Call::ExitCode(handle(4)), Reply::Active),
@@ -38,7 +38,7 @@ fn a_process_that_has_ended_has_a_code(rt: HostRuntime) -> Result<(), Fail> {
 
 #[test]
 fn a_process_is_opened_while_it_lives_or_is_held(rt: HostRuntime) -> Result<(), Fail> {
-    let mut m = Stage::open(rt.alloc(), TWO_SLOTS)?;
+    let mut m = Box::new(rt.alloc(), Stage::open(rt.alloc(), TWO_SLOTS)?)?;
     let steps = [
         Makes(4, handles(&[1])),
         Says(1, Call::Open(WinNo::new(9)), Reply::Unknown),
@@ -55,7 +55,7 @@ fn a_process_is_opened_while_it_lives_or_is_held(rt: HostRuntime) -> Result<(), 
 
 #[test]
 fn a_thread_runs_when_its_count_is_zero(rt: HostRuntime) -> Result<(), Fail> {
-    let mut m = Stage::open(rt.alloc(), TWO_SLOTS)?;
+    let mut m = Box::new(rt.alloc(), Stage::open(rt.alloc(), TWO_SLOTS)?)?;
     let made = Reply::Made(handle(4), WinNo::new(3));
     let steps = [
         Says(1, Call::Create(0, handles(&[1])), made),
@@ -72,7 +72,7 @@ fn a_thread_runs_when_its_count_is_zero(rt: HostRuntime) -> Result<(), Fail> {
 
 #[test]
 fn helper_threads_start_suspended(rt: HostRuntime) -> Result<(), Fail> {
-    let mut m = Stage::open(rt.alloc(), TWO_SLOTS)?;
+    let mut m = Box::new(rt.alloc(), Stage::open(rt.alloc(), TWO_SLOTS)?)?;
     let steps = [
         Makes(4, handles(&[1])),
         Turns(2, 1, Call::Load(handle(1), 0), None),
@@ -90,7 +90,7 @@ fn helper_threads_start_suspended(rt: HostRuntime) -> Result<(), Fail> {
 
 #[test]
 fn a_count_stays_at_most_100(rt: HostRuntime) -> Result<(), Fail> {
-    let mut m = Stage::open(rt.alloc(), TWO_SLOTS)?;
+    let mut m = Box::new(rt.alloc(), Stage::open(rt.alloc(), TWO_SLOTS)?)?;
     assert!(rt; m.goes(&Makes(4, handles(&[1]))));
     for count in 1..100 {
         let suspends = Says(1, Call::Suspend(handle(4), 2), Reply::Count(count));
@@ -106,7 +106,7 @@ fn a_count_stays_at_most_100(rt: HostRuntime) -> Result<(), Fail> {
 
 #[test]
 fn a_handle_may_be_listed_twice(rt: HostRuntime) -> Result<(), Fail> {
-    let mut m = Stage::open(rt.alloc(), TWO_SLOTS)?;
+    let mut m = Box::new(rt.alloc(), Stage::open(rt.alloc(), TWO_SLOTS)?)?;
     let steps = [
         Says(1, Call::Create(0, handles(&[1, 9])), Reply::BadHandle),
         Makes(4, handles(&[1, 3, 1])),
@@ -123,7 +123,7 @@ fn a_handle_may_be_listed_twice(rt: HostRuntime) -> Result<(), Fail> {
 
 #[test]
 fn a_process_takes_a_free_handle_of_its_maker(rt: HostRuntime) -> Result<(), Fail> {
-    let mut m = Stage::open(rt.alloc(), TWO_SLOTS)?;
+    let mut m = Box::new(rt.alloc(), Stage::open(rt.alloc(), TWO_SLOTS)?)?;
     for number in 4..65 {
         let made = Reply::Handle(handle(number));
         assert!(rt;
@@ -143,7 +143,7 @@ fn a_process_takes_a_free_handle_of_its_maker(rt: HostRuntime) -> Result<(), Fai
 
 #[test]
 fn a_process_may_end_itself_by_its_handle(rt: HostRuntime) -> Result<(), Fail> {
-    let mut m = Stage::open(rt.alloc(), TWO_SLOTS)?;
+    let mut m = Box::new(rt.alloc(), Stage::open(rt.alloc(), TWO_SLOTS)?)?;
     let steps = [
         Says(1, Call::Open(WinNo::new(2)), Reply::Handle(handle(4))),
         Waits(0, Call::WaitAny(handles(&[4]))),
@@ -159,7 +159,7 @@ fn a_process_may_end_itself_by_its_handle(rt: HostRuntime) -> Result<(), Fail> {
 
 #[test]
 fn the_host_may_be_ended(rt: HostRuntime) -> Result<(), Fail> {
-    let mut m = Stage::open(rt.alloc(), TWO_SLOTS)?;
+    let mut m = Box::new(rt.alloc(), Stage::open(rt.alloc(), TWO_SLOTS)?)?;
     let steps = [
         Says(1, Call::Open(WinNo::new(1)), Reply::Handle(handle(4))),
         Says(1, Call::Terminate(handle(2), 5), Reply::BadHandle),

@@ -7,7 +7,7 @@ use w32_base::{Call, Reply, WinNo};
 
 #[test]
 fn words_are_loaded_exchanged_and_added_to(rt: HostRuntime) -> Result<(), Fail> {
-    let mut m = Stage::open(rt.alloc(), TWO_SLOTS)?;
+    let mut m = Box::new(rt.alloc(), Stage::open(rt.alloc(), TWO_SLOTS)?)?;
     let steps = [
         Says(1, Call::FetchAdd(handle(1), 0, 5), Reply::Word(1)),
         Says(1, Call::CompareExchange(handle(1), 0, 6, 9), Reply::Word(6)),
@@ -29,7 +29,7 @@ fn words_are_loaded_exchanged_and_added_to(rt: HostRuntime) -> Result<(), Fail> 
 
 #[test]
 fn an_event_is_taken_by_a_wait_unless_it_is_manual(rt: HostRuntime) -> Result<(), Fail> {
-    let mut m = Stage::open(rt.alloc(), TWO_SLOTS)?;
+    let mut m = Box::new(rt.alloc(), Stage::open(rt.alloc(), TWO_SLOTS)?)?;
     let steps = [
         Says(1, Call::Event(true, false), Reply::Handle(handle(4))),
         Says(1, Call::Event(false, true), Reply::Handle(handle(5))),
@@ -47,7 +47,7 @@ fn an_event_is_taken_by_a_wait_unless_it_is_manual(rt: HostRuntime) -> Result<()
 
 #[test]
 fn a_wait_on_an_absent_handle_goes_with_a_signalled_one(rt: HostRuntime) -> Result<(), Fail> {
-    let mut m = Stage::open(rt.alloc(), TWO_SLOTS)?;
+    let mut m = Box::new(rt.alloc(), Stage::open(rt.alloc(), TWO_SLOTS)?)?;
     let steps = [
         Says(1, Call::Event(false, true), Reply::Handle(handle(4))),
         Waits(1, Call::WaitAny(handles(&[]))),
@@ -63,7 +63,7 @@ fn a_wait_on_an_absent_handle_goes_with_a_signalled_one(rt: HostRuntime) -> Resu
 
 #[test]
 fn a_mutex_whose_owner_ended_is_abandoned(rt: HostRuntime) -> Result<(), Fail> {
-    let mut m = Stage::open(rt.alloc(), TWO_SLOTS)?;
+    let mut m = Box::new(rt.alloc(), Stage::open(rt.alloc(), TWO_SLOTS)?)?;
     let steps = [
         Says(1, Call::Mutex(false), Reply::Handle(handle(4))),
         Makes(5, handles(&[4])),
@@ -80,7 +80,7 @@ fn a_mutex_whose_owner_ended_is_abandoned(rt: HostRuntime) -> Result<(), Fail> {
 
 #[test]
 fn an_abandoned_mutex_is_released_after_its_taking_alone(rt: HostRuntime) -> Result<(), Fail> {
-    let mut m = Stage::open(rt.alloc(), TWO_SLOTS)?;
+    let mut m = Box::new(rt.alloc(), Stage::open(rt.alloc(), TWO_SLOTS)?)?;
     let steps = [
         Says(1, Call::Mutex(false), Reply::Handle(handle(4))),
         Makes(5, handles(&[4])),
@@ -97,7 +97,7 @@ fn an_abandoned_mutex_is_released_after_its_taking_alone(rt: HostRuntime) -> Res
 
 #[test]
 fn one_release_frees_a_mutex_taken_twice(rt: HostRuntime) -> Result<(), Fail> {
-    let mut m = Stage::open(rt.alloc(), TWO_SLOTS)?;
+    let mut m = Box::new(rt.alloc(), Stage::open(rt.alloc(), TWO_SLOTS)?)?;
     let steps = [
         Says(1, Call::Mutex(true), Reply::Handle(handle(4))),
         Makes(5, handles(&[4])),
@@ -112,7 +112,7 @@ fn one_release_frees_a_mutex_taken_twice(rt: HostRuntime) -> Result<(), Fail> {
 
 #[test]
 fn a_pipe_is_broken_when_its_last_writer_ended(rt: HostRuntime) -> Result<(), Fail> {
-    let mut m = Stage::open(rt.alloc(), TWO_SLOTS)?;
+    let mut m = Box::new(rt.alloc(), Stage::open(rt.alloc(), TWO_SLOTS)?)?;
     let steps = [
         Says(1, Call::Pipe, Reply::Two(handle(4), handle(5))),
         Makes(6, handles(&[5])),
@@ -129,7 +129,7 @@ fn a_pipe_is_broken_when_its_last_writer_ended(rt: HostRuntime) -> Result<(), Fa
 
 #[test]
 fn a_pipe_is_empty_while_a_writer_lives(rt: HostRuntime) -> Result<(), Fail> {
-    let mut m = Stage::open(rt.alloc(), TWO_SLOTS)?;
+    let mut m = Box::new(rt.alloc(), Stage::open(rt.alloc(), TWO_SLOTS)?)?;
     let steps = [
         Says(1, Call::Pipe, Reply::Two(handle(4), handle(5))),
         Makes(6, handles(&[5])),
@@ -145,7 +145,7 @@ fn a_pipe_is_empty_while_a_writer_lives(rt: HostRuntime) -> Result<(), Fail> {
 
 #[test]
 fn a_pipe_holds_64_bytes(rt: HostRuntime) -> Result<(), Fail> {
-    let mut m = Stage::open(rt.alloc(), TWO_SLOTS)?;
+    let mut m = Box::new(rt.alloc(), Stage::open(rt.alloc(), TWO_SLOTS)?)?;
     let steps = [Says(1, Call::Pipe, Reply::Two(handle(4), handle(5)))];
     assert_eq!(rt; m.try_steps(&steps), None);
     for byte in 0..64 {
@@ -163,7 +163,7 @@ fn a_pipe_holds_64_bytes(rt: HostRuntime) -> Result<(), Fail> {
 
 #[test]
 fn the_ends_of_a_pipe_differ(rt: HostRuntime) -> Result<(), Fail> {
-    let mut m = Stage::open(rt.alloc(), TWO_SLOTS)?;
+    let mut m = Box::new(rt.alloc(), Stage::open(rt.alloc(), TWO_SLOTS)?)?;
     let steps = [
         Says(1, Call::Pipe, Reply::Two(handle(4), handle(5))),
         Says(1, Call::Put(handle(4), 1), Reply::BadHandle),
@@ -180,7 +180,7 @@ fn the_ends_of_a_pipe_differ(rt: HostRuntime) -> Result<(), Fail> {
 
 #[test]
 fn a_table_has_64_handles(rt: HostRuntime) -> Result<(), Fail> {
-    let mut m = Stage::open(rt.alloc(), TWO_SLOTS)?;
+    let mut m = Box::new(rt.alloc(), Stage::open(rt.alloc(), TWO_SLOTS)?)?;
     for number in 4..65 {
         let made = Reply::Handle(handle(number));
         assert!(rt;
@@ -203,7 +203,7 @@ fn a_table_has_64_handles(rt: HostRuntime) -> Result<(), Fail> {
 
 #[test]
 fn a_process_may_duplicate_its_own_handles(rt: HostRuntime) -> Result<(), Fail> {
-    let mut m = Stage::open(rt.alloc(), TWO_SLOTS)?;
+    let mut m = Box::new(rt.alloc(), Stage::open(rt.alloc(), TWO_SLOTS)?)?;
     let steps = [
         Says(1, Call::Open(WinNo::new(2)), Reply::Handle(handle(4))),
         Says(1, Call::Dup(handle(4), handle(1)), Reply::Handle(handle(5))),
@@ -220,7 +220,7 @@ fn a_process_may_duplicate_its_own_handles(rt: HostRuntime) -> Result<(), Fail> 
 
 #[test]
 fn a_process_may_duplicate_handles_of_another_that_lives(rt: HostRuntime) -> Result<(), Fail> {
-    let mut m = Stage::open(rt.alloc(), TWO_SLOTS)?;
+    let mut m = Box::new(rt.alloc(), Stage::open(rt.alloc(), TWO_SLOTS)?)?;
     let steps = [
         Makes(4, handles(&[1])),
         Says(2, Call::Event(true, true), Reply::Handle(handle(2))),

@@ -102,12 +102,13 @@ fn has(place: u32, word: u64) -> Step {
 
 /// The machine with both processes and both rows. Process 2 makes process 3 in slot 2, which has handles on the section,
 /// the mutex, the terminal and its event.
-fn open_scene<R: AllocGlobal + Abort>(rt: &R) -> Result<Scene, Fail> {
-    let mut scene = Scene {
+fn open_scene<R: AllocGlobal + Abort>(rt: &R) -> Result<Box<Scene>, Fail> {
+    let opened = Scene {
         stage: Stage::open(rt.alloc(), TWO_SLOTS)?,
         script: read_script(rt.alloc(), TWO_SLOTS)?,
         own: Own::new(rt.alloc())?,
     };
+    let mut scene = Box::new(rt.alloc(), opened)?;
     let made = Reply::Made(handle(5), WinNo::new(3));
     let steps = [
         Says(1, Call::Event(false, false), Reply::Handle(handle(4))),

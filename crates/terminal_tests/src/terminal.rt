@@ -29,7 +29,7 @@ const HEAD: &[u8] =
 const DIGITS: [u8; 16] = *b"0123456789abcdef";
 
 /// The machine with these keys in the console's queue.
-fn open_typed(alloc: Global, keys: &[u8]) -> Result<Stage, Fail> {
+fn open_typed(alloc: Global, keys: &[u8]) -> Result<Box<Stage>, Fail> {
     let mut text = Vec::new(alloc);
     text.extend_from_slice(HEAD)?;
     for key in keys {
@@ -39,7 +39,7 @@ fn open_typed(alloc: Global, keys: &[u8]) -> Result<Stage, Fail> {
         text.push(b'\n')?;
     }
     text.extend_from_slice(b"settle\n")?;
-    Ok(Stage::open(alloc, text.as_slice())?)
+    Ok(Box::new(alloc, Stage::open(alloc, text.as_slice())?)?)
 }
 
 /// The console takes a key that is for a signal to the foreground group.

@@ -26,7 +26,7 @@ fn script(alloc: Global, schedule: &[u8]) -> Result<Script, Fail>
 #[test]
 fn each_thread_that_runs_looks_once_and_then_the_run_is_quiet(rt: HostRuntime) -> Result<(), Fail> {
     let script = script(rt.alloc(), b"settle\n")?;
-    let mut world = World::<Rests>::open(rt.alloc(), &script)?;
+    let mut world = Box::new(rt.alloc(), World::<Rests>::open(rt.alloc(), &script)?)?;
     assert_eq!(rt; world.spare(), 6);
     assert!(rt; world.occupied(Slot::new(1)));
     assert!(rt; !world.occupied(Slot::new(2)));
@@ -56,7 +56,7 @@ fn a_run_ends_by_the_budget_where_work_remains(rt: HostRuntime) -> Result<(), Fa
         rt.alloc(),
         b"key 61\nkey 62\nkey 63\nsteps 2\nend 2\nturn 0 2\n",
     )?;
-    let mut world = World::<Rests>::open(rt.alloc(), &script)?;
+    let mut world = Box::new(rt.alloc(), World::<Rests>::open(rt.alloc(), &script)?)?;
     assert_eq!(rt; world.key_places(), 3);
     let end = world.run_script(&script);
     assert_eq!(rt; end, End::Budget);
@@ -71,7 +71,7 @@ fn a_run_ends_by_the_budget_where_work_remains(rt: HostRuntime) -> Result<(), Fa
 #[test]
 fn an_end_may_stand_anywhere(rt: HostRuntime) -> Result<(), Fail> {
     let script = script(rt.alloc(), b"steps 1\nend 1\nturn 1 0\n")?;
-    let mut world = World::<Rests>::open(rt.alloc(), &script)?;
+    let mut world = Box::new(rt.alloc(), World::<Rests>::open(rt.alloc(), &script)?)?;
     let end = world.run_script(&script);
     assert_eq!(rt; end, End::Given);
     assert_eq!(rt; world.entries().len(), 3);
@@ -89,7 +89,7 @@ fn an_end_may_stand_anywhere(rt: HostRuntime) -> Result<(), Fail> {
 #[test]
 fn what_is_left_after_an_end_settles(rt: HostRuntime) -> Result<(), Fail> {
     let script = script(rt.alloc(), b"steps 1\nend 1\nsettle\n")?;
-    let mut world = World::<Rests>::open(rt.alloc(), &script)?;
+    let mut world = Box::new(rt.alloc(), World::<Rests>::open(rt.alloc(), &script)?)?;
     let end = world.run_script(&script);
     assert_eq!(rt; end, End::Quiet);
     assert_eq!(rt; world.entries().len(), 3);
