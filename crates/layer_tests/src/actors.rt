@@ -149,8 +149,8 @@ fn events(
     place: u32,
     turns: u8,
 ) -> Result<[Option<Event>; 10], Fail> {
-    let setup = setup(alloc)?;
-    let mut own = memory(alloc, place)?;
+    let setup = Box::new(alloc, setup(alloc)?)?;
+    let mut own = Box::new(alloc, memory(alloc, place)?)?;
     let slot = Slot::try_new(slot).ok_or("slot")?;
     let thread = ThreadNo::try_new(thread).ok_or("thread")?;
     let mut actor = Actor::open(slot, thread);
@@ -239,7 +239,7 @@ fn a_deliverable_signal_lets_the_thread_rest(rt: HostRuntime) -> Result<(), Fail
 
 /// What `getppid` answers a process with parent 3, in r0.
 fn parent(alloc: Global, machine: &mut Machine) -> Result<u32, Fail> {
-    let mut own = memory(alloc, 0)?;
+    let mut own = Box::new(alloc, memory(alloc, 0)?)?;
     let mut part = Gets::new(RowNo::new(1), Asked::Parent);
     for _ in 0..4 {
         if !part.is_finished() {

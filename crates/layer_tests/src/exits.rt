@@ -117,8 +117,8 @@ fn end(
     part: &mut Exiting,
     children: u8,
 ) -> Result<[Option<Event>; 3], Fail> {
-    let setup = setup(alloc)?;
-    let mut own = memory(alloc, children)?;
+    let setup = Box::new(alloc, setup(alloc)?)?;
+    let mut own = Box::new(alloc, memory(alloc, children)?)?;
     let mut events = [None; 3];
     let mut count: usize = 0;
     for _ in 0..40 {
@@ -217,8 +217,8 @@ fn a_fault_leaves_its_bit_and_a_dead_parent_doesnt_reap(rt: HostRuntime) -> Resu
 
 #[test]
 fn parts_post_and_go_through_their_trait(rt: HostRuntime) -> Result<(), Fail> {
-    let setup = setup(rt.alloc())?;
-    let mut own = Own::new(rt.alloc())?;
+    let setup = Box::new(rt.alloc(), setup(rt.alloc())?)?;
+    let mut own = Box::new(rt.alloc(), Own::new(rt.alloc())?)?;
     let mut machine = machine_with([1, ZOMBIE, FIRST, 0, 0, 0, 0, 0, 0, 0, 0, 0, 0]);
     let mut gather = Gather::new(RowNo::new(1));
     let mut events: u32 = 0;

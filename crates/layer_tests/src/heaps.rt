@@ -271,7 +271,7 @@ fn make_for_exec(own: &mut Own) {
 
 #[test]
 fn copies_are_made(rt: HostRuntime) -> Result<(), Fail> {
-    let mut own = memory(rt.alloc())?;
+    let mut own = Box::new(rt.alloc(), memory(rt.alloc())?)?;
     make_for_child(&mut own);
     let mut wanted = some_heap();
     wanted.owed = 0;
@@ -280,7 +280,7 @@ fn copies_are_made(rt: HostRuntime) -> Result<(), Fail> {
     assert_eq!(rt; told(own.scratch.as_slice()), Some(wanted));
     assert_eq!(rt; own.scratch.get(288), Some(7));
 
-    let mut own = memory(rt.alloc())?;
+    let mut own = Box::new(rt.alloc(), memory(rt.alloc())?)?;
     make_for_exec(&mut own);
     let mut wanted = some_heap();
     wanted.actions = [Action::Default; 31];

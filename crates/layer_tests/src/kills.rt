@@ -108,8 +108,8 @@ fn kill(
     target: i32,
     signal: i32,
 ) -> Result<(u32, u32, [Option<Event>; 2]), Fail> {
-    let setup = setup(alloc)?;
-    let mut own = image(alloc)?;
+    let setup = Box::new(alloc, setup(alloc)?)?;
+    let mut own = Box::new(alloc, image(alloc)?)?;
     let KillStart::One(mut part) = begin(&setup, Pid::new(2), target, signal) else {
         return Err("target".into());
     };
@@ -199,7 +199,7 @@ fn a_continue_of_a_stopped_process_tells_its_parent(rt: HostRuntime) -> Result<(
 
 #[test]
 fn bad_numbers_and_absent_rows_are_refused_at_once(rt: HostRuntime) -> Result<(), Fail> {
-    let setup = setup(rt.alloc())?;
+    let setup = Box::new(rt.alloc(), setup(rt.alloc())?)?;
     let by = Pid::new(2);
     let invalid = KillStart::Refused(Errno::EINVAL);
     let absent = KillStart::Refused(Errno::ESRCH);

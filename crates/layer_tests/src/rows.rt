@@ -153,8 +153,8 @@ fn turn<P: Part>(part: &mut P, own: &mut Own, setup: &Setup, machine: &mut Machi
 fn claim(alloc: Global, rows: u16, machine: &mut Machine) -> Result<Option<RowNo>, Fail>
     requires { (1 ≤ rows) × (rows ≤ 4000) }
 {
-    let setup = setup(alloc, rows)?;
-    let mut own = Own::new(alloc)?;
+    let setup = Box::new(alloc, setup(alloc, rows)?)?;
+    let mut own = Box::new(alloc, Own::new(alloc)?)?;
     let mut part = Claim::new();
     for _ in 0..9 {
         if !part.is_finished() {
@@ -179,8 +179,8 @@ fn a_claim_holds_the_next_row(rt: HostRuntime) -> Result<(), Fail> {
 
 #[test]
 fn the_roster_mutex_is_taken_and_let_go(rt: HostRuntime) -> Result<(), Fail> {
-    let setup = setup(rt.alloc(), 2)?;
-    let mut own = Own::new(rt.alloc())?;
+    let setup = Box::new(rt.alloc(), setup(rt.alloc(), 2)?)?;
+    let mut own = Box::new(rt.alloc(), Own::new(rt.alloc())?)?;
     let mut machine = machine_with([0; 13]);
     let mut hold = Hold::new();
     if !hold.is_finished() {
@@ -200,8 +200,8 @@ fn the_roster_mutex_is_taken_and_let_go(rt: HostRuntime) -> Result<(), Fail> {
 
 /// The processes that a look through the rows finds.
 fn found(alloc: Global, machine: &mut Machine) -> Result<[u16; 4], Fail> {
-    let setup = setup(alloc, 4)?;
-    let mut own = Own::new(alloc)?;
+    let setup = Box::new(alloc, setup(alloc, 4)?)?;
+    let mut own = Box::new(alloc, Own::new(alloc)?)?;
     let mut part = Scan::new(RowNo::new(4));
     let mut found = [0; 4];
     let mut count: usize = 0;
@@ -243,8 +243,8 @@ fn a_look_finds_each_process_up_to_the_last_row(rt: HostRuntime) -> Result<(), F
 }
 
 fn orphaned(alloc: Global, group: u16, machine: &mut Machine) -> Result<Option<bool>, Fail> {
-    let setup = setup(alloc, 4)?;
-    let mut own = Own::new(alloc)?;
+    let setup = Box::new(alloc, setup(alloc, 4)?)?;
+    let mut own = Box::new(alloc, Own::new(alloc)?)?;
     let mut part = Orphaned::new(group, RowNo::new(4));
     for _ in 0..20 {
         if !part.is_finished() {
@@ -304,8 +304,8 @@ fn post(
     by: Poster,
     machine: &mut Machine,
 ) -> Result<(Option<Posted>, [Option<Event>; 2]), Fail> {
-    let setup = setup(alloc, 4)?;
-    let mut own = Own::new(alloc)?;
+    let setup = Box::new(alloc, setup(alloc, 4)?)?;
+    let mut own = Box::new(alloc, Own::new(alloc)?)?;
     let mut part = Post::new(RowNo::new(2), signal, kill(signal.get()), by);
     let mut events = [None; 2];
     let mut count: usize = 0;

@@ -64,7 +64,7 @@ fn a_run_ends_by_the_budget_where_work_remains(rt: HostRuntime) -> Result<(), Fa
     assert_eq!(rt; world.entries()[2].outcome, Outcome::Keyed);
     assert_eq!(rt; world.entries()[5].outcome, Outcome::Idle);
     assert_eq!(rt; world.key_places(), 0);
-    assert_eq!(rt; world.into_journal().len(), 6);
+    assert_eq!(rt; Box::into_inner(world).into_journal().len(), 6);
     Ok(())
 }
 
