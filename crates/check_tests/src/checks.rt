@@ -80,7 +80,7 @@ fn with_child_events(alloc: Global) -> Result<Vec<Event>, Fail> {
 
 #[test]
 fn a_child_is_reaped(rt: HostRuntime) -> Result<(), Fail> {
-    let script = with_child(rt.alloc())?;
+    let script = Box::new(rt.alloc(), with_child(rt.alloc())?)?;
     let events = with_child_events(rt.alloc())?;
     assert_eq!(rt; events.len(), 11);
     assert_eq!(rt; check(rt.alloc(), &script, &events)?, Verdict::Yes);
@@ -89,7 +89,7 @@ fn a_child_is_reaped(rt: HostRuntime) -> Result<(), Fail> {
 
 #[test]
 fn a_reaping_without_a_child_is_none(rt: HostRuntime) -> Result<(), Fail> {
-    let script = with_child(rt.alloc())?;
+    let script = Box::new(rt.alloc(), with_child(rt.alloc())?)?;
     let events = vec![in rt.alloc(); Event::Reap(process(0), number(3), number(7))]?;
     let verdict = Verdict::No {
         line: 2,
@@ -102,9 +102,9 @@ fn a_reaping_without_a_child_is_none(rt: HostRuntime) -> Result<(), Fail> {
 
 #[test]
 fn a_refusal_leaves_the_state(rt: HostRuntime) -> Result<(), Fail> {
-    let script = with_child(rt.alloc())?;
+    let script = Box::new(rt.alloc(), with_child(rt.alloc())?)?;
     let events = with_child_events(rt.alloc())?;
-    let mut state = State::open(rt.alloc(), &script)?;
+    let mut state = Box::new(rt.alloc(), State::open(rt.alloc(), &script)?)?;
     for event in events.iter() {
         assert_eq!(rt;
             state.apply(&Event::Run(process(0), number(2))),
@@ -145,7 +145,7 @@ fn with_handler(alloc: Global) -> Result<Script, Fail> {
 
 #[test]
 fn a_pending_signal_is_handled_once(rt: HostRuntime) -> Result<(), Fail> {
-    let script = with_handler(rt.alloc())?;
+    let script = Box::new(rt.alloc(), with_handler(rt.alloc())?)?;
     let kill = Event::Kill(process(0), number(2), number(15), Answer::Zero);
     let events = vec![in rt.alloc();
         Event::SetAction(process(0), number(15), NewAction::Handler(number(7), false)),
@@ -185,7 +185,7 @@ fn with_group(alloc: Global) -> Result<Script, Fail> {
 
 #[test]
 fn a_group_is_killed_member_by_member(rt: HostRuntime) -> Result<(), Fail> {
-    let script = with_group(rt.alloc())?;
+    let script = Box::new(rt.alloc(), with_group(rt.alloc())?)?;
     let begin = [
         Event::Fork(process(0), number(3)),
         Event::Run(process(0), number(1)),
