@@ -33,10 +33,10 @@ pub fn joined<R: AllocGlobal>(rt: &R, first: &[u8], second: &[u8]) -> Result<Vec
 }
 
 // A sink with room for any log of these tests. It fails at the calls that are given.
-pub fn sink_that_fails<R: AllocGlobal>(rt: &R, bad_writes: &[u32]) -> Result<MemSink, Fail> {
+pub fn sink_that_fails<R: AllocGlobal>(rt: &R, bad_writes: &[u32]) -> Result<Box<MemSink>, Fail> {
     let mut fails = Vec::new(rt.alloc());
     fails.extend_from_slice(bad_writes)?;
-    Ok(MemSink::new(rt.alloc(), 4096, fails)?)
+    Ok(Box::new(rt.alloc(), MemSink::new(rt.alloc(), 4096, fails)?)?)
 }
 
 // Runs the words over a script. The source fails at the calls that are given.
