@@ -40,7 +40,7 @@ fn read_short(alloc: Global, script: &Script, text: &[u8]) -> Result<Vec<Event>,
 
 #[test]
 fn a_log_is_read_back(rt: HostRuntime) -> Result<(), Fail> {
-    let script = script_with_core(rt.alloc())?;
+    let script = Box::new(rt.alloc(), script_with_core(rt.alloc())?)?;
     let entries = journal();
     let events = read_events(rt.alloc(), &script, EVENTS)?;
     assert_eq!(rt; events, events_of(rt.alloc(), &entries)?);
@@ -67,7 +67,7 @@ const KINDS: &[u8] = b"log events\n\
 
 #[test]
 fn each_kind_is_read(rt: HostRuntime) -> Result<(), Fail> {
-    let script = script_with_core(rt.alloc())?;
+    let script = Box::new(rt.alloc(), script_with_core(rt.alloc())?)?;
     let events = read_events(rt.alloc(), &script, KINDS)?;
     assert_eq!(rt; events.len(), 61);
     assert_eq!(rt; events[60], Event::Host(Acting::host(), number(65536)));
